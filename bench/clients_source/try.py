@@ -36,7 +36,8 @@ def first_query(program):
                 raise AssertionError("a late row was accepted")
             except Refused as refused:
                 assert refused.fault == "E10 Late", refused.fault
-            assert [kind for kind, _ in client.plan("high")] == ["Window", "Select", "Project", "ToStream"]
+            kinds = [kind for kind, _ in client.plan("high")]
+            assert kinds == ["Window", "Select", "Project", "ToStream"]
             client.drop("high")
         assert server.ended() == (0, "")
     print("first query: two answers, and a late row is refused")
@@ -89,7 +90,8 @@ def bare(program):
     """Lines by a bare socket, the last one without its line feed."""
     with Server(program, 1, 1, 1) as server:
         with socket.create_connection(("127.0.0.1", server.port)) as connection:
-            connection.sendall(b'{"op":"stream","name":"S","columns":["a"],"from":0}\n{"op":"drain"')
+            connection.sendall(
+                b'{"op":"stream","name":"S","columns":["a"],"from":0}\n{"op":"drain"')
             connection.shutdown(socket.SHUT_WR)
             with connection.makefile("rb") as lines:
                 assert lines.read() == b'{"ok":true}\n{"error":"N1 NotJson"}\n'
@@ -98,7 +100,7 @@ def bare(program):
 
 
 def own_address(program):
-    """It listens on 127.0.0.1 alone: the same port of another address of this machine is refused."""
+    """It listens on 127.0.0.1 only: the same port of another address of the machine is refused."""
     with Server(program, 1, 1, 1) as server:
         try:
             socket.create_connection(("127.0.0.2", server.port), 60).close()
@@ -142,7 +144,7 @@ def page():
 
 
 def from_nc(program):
-    """The terminals of docs/use.md: each reply is the one that stands there, once the workers are done."""
+    """The terminals of docs/use.md: each reply is the one there, once the workers are done."""
     blocks = [re.findall(r"(?m)^    (.*)$", it) for it in page().split("\n\n")]
     blocks = [it for it in blocks if it and ("nc " in it[0] or it[0].startswith("{"))]
     assert len(blocks) == 3, blocks
@@ -174,7 +176,8 @@ def from_python(program):
     """The dozen lines of Python of docs/use.md print what stands behind them."""
     (lines, wanted), = re.findall(r"(?ms)^```python\n(.*?)^```\n\n```text\n(.*?)^```$", page())
     path = f"{pathlib.Path(program).parent}{os.pathsep}{os.environ['PATH']}"
-    done = subprocess.run([sys.executable, "-c", lines], capture_output=True, text=True, timeout=60, env={**os.environ, "PATH": path})
+    done = subprocess.run([sys.executable, "-c", lines], capture_output=True, text=True, timeout=60,
+                          env={**os.environ, "PATH": path})
     assert (done.returncode, done.stdout) == (0, wanted), done
     print("docs/use.md from Python: it prints what stands there")
 

@@ -35,7 +35,8 @@ STREAMS = {"join": "AB", "three": "ABC"}
 
 
 def keys_of(kind, span):
-    """How many keys there are: as many as a window has rows where an answer needs a key that is new or met, so that answers stay as many."""
+    """How many keys there are: as many as a window has rows where an answer needs a key that is new
+    or met, so that answers stay as many."""
     return ROWS * (span + 1) if kind in ("join", "three", "distinct") else 64
 
 
@@ -56,7 +57,8 @@ def script(path, kind, span, instants, stride=STRIDE, rising=False):
         last = min(first + stride, instants) - 1
         for name in streams:
             rows = [
-                [at, draw.randrange(keys), None if draw.randrange(16) == 0 else draw.randrange(-1000, 1000)]
+                [at, draw.randrange(keys),
+                 None if draw.randrange(16) == 0 else draw.randrange(-1000, 1000)]
                 for at in range(first, last + 1)
                 for _ in range(ROWS)
             ]
@@ -89,7 +91,8 @@ def least(words, script_path, replies, times=3):
 
 
 def peak(words, script_path, replies):
-    """The bytes that a run held at most. (What wait4 says of a child counts what its parent held as it began.)"""
+    """The bytes that a run held at most. (What wait4 says of a child counts what its parent held as
+    it began.)"""
     said = replies + ".peak"
     run(["/usr/bin/time", "-f", "%M", "-o", said, *words], script_path, replies)
     with open(said) as text:
@@ -101,7 +104,8 @@ def compare(what, first, second):
     with open(first) as one, open(second) as other:
         for number, (mine, theirs) in enumerate(zip(one, other), 1):
             if mine != theirs:
-                print(f"{what}: THE REPLIES DIFFER in line {number}:\n  {mine[:200].rstrip()}\n  {theirs[:200].rstrip()}", flush=True)
+                print(f"{what}: THE REPLIES DIFFER in line {number}:\n  {mine[:200].rstrip()}\n"
+                      f"  {theirs[:200].rstrip()}", flush=True)
                 return
         if one.read() or other.read():
             print(f"{what}: THE REPLIES DIFFER in their number", flush=True)
@@ -162,20 +166,26 @@ class Bench:
                       f"{rows / hand:>10.0f} {hand / mine:>6.2f} {rows / tests:>10.0f} "
                       f"{tests / mine:>6.2f}", flush=True)
             if len(rates) > 1:
-                print(f"{kind:<9} flat: the quickest span is {max(rates) / min(rates):.2f} times the slowest")
+                print(f"{kind:<9} flat: the quickest span is {max(rates) / min(rates):.2f} times "
+                      "the slowest")
 
     def small(self):
-        """The definition itself, the engine and the program by hand at the smallest span, on fewer instants."""
+        """The definition itself, the engine and the program by hand at the smallest span, on fewer
+        instants."""
         span, instants = SPANS[0], 256
-        print(f"\n{'query':<9} {'rows':>8} {'rows/s':>10} {'definition':>10} {'ratio':>8}   {instants} instants, span {span}")
+        print(f"\n{'query':<9} {'rows':>8} {'rows/s':>10} {'definition':>10} {'ratio':>8}   "
+              f"{instants} instants, span {span}")
         for kind in TEXTS:
             rows = script(self.at("script"), kind, span, instants, stride=32)
             mine = least([self.engine], self.at("script"), self.at("engine"))
-            plain = least([self.engine, "--plain"], self.at("script"), self.at("definition"), times=1)
+            plain = least([self.engine, "--plain"], self.at("script"), self.at("definition"),
+                          times=1)
             run([self.plain, kind, str(span)], self.at("script"), self.at("hand"))
-            compare(f"{kind} {span}, engine and definition", self.at("engine"), self.at("definition"))
+            compare(f"{kind} {span}, engine and definition", self.at("engine"),
+                    self.at("definition"))
             compare(f"{kind} {span}, engine and by hand", self.at("engine"), self.at("hand"))
-            print(f"{kind:<9} {rows:>8} {rows / mine:>10.0f} {rows / plain:>10.0f} {plain / mine:>8.2f}", flush=True)
+            print(f"{kind:<9} {rows:>8} {rows / mine:>10.0f} {rows / plain:>10.0f} "
+                  f"{plain / mine:>8.2f}", flush=True)
 
     def instructions(self):
         """Instructions a row at span 100, by the difference of two runs."""
@@ -190,7 +200,8 @@ class Bench:
                     said = []
                     for instants in (few // scale, more // scale):
                         rows = script(self.at("script"), kind, 100, instants, stride, rising)
-                        count = counted(words, self.at("script"), self.at("replies"), self.at("kept"))
+                        count = counted(words, self.at("script"), self.at("replies"),
+                                        self.at("kept"))
                         said.append((rows, count))
                     (rows, count), (rows_more, count_more) = said
                     figures.append((count_more - count) / (rows_more - rows))
@@ -203,23 +214,27 @@ class Bench:
         instants = max(STRIDE, int(INSTANTS * self.share))
         rows = script(self.at("script"), "filter", 0, instants)
         with open(self.at("script")) as whole, open(self.at("alone"), "w") as alone:
-            alone.writelines(line for line in whole if not line.startswith(('{"op":"query"', '{"op":"take"')))
+            alone.writelines(line for line in whole
+                             if not line.startswith(('{"op":"query"', '{"op":"take"')))
         mine = least([self.engine], self.at("alone"), self.at("engine"))
         refuse_faults(self.at("engine"))
         print(f"\nthe same lines with no query and no take: {rows / mine:.0f} rows/s")
 
     def instant_by_instant(self):
         """An append, a heartbeat, a drain and a take for each instant."""
-        print(f"\n{'query':<9} {'rows':>8} {'rows/s':>10} {'by hand':>10} {'share':>6}   an append, a drain and a take for each instant, span 100")
+        print(f"\n{'query':<9} {'rows':>8} {'rows/s':>10} {'by hand':>10} {'share':>6}   "
+              "an append, a drain and a take for each instant, span 100")
         for kind in TEXTS:
-            rows = script(self.at("script"), kind, 100, max(STRIDE, int(INSTANTS * self.share / 3)), stride=1)
+            instants = max(STRIDE, int(INSTANTS * self.share / 3))
+            rows = script(self.at("script"), kind, 100, instants, stride=1)
             mine = least([self.engine], self.at("script"), self.at("engine"))
             hand = least([self.plain, kind, "100"], self.at("script"), self.at("hand"))
             compare(f"{kind} 100 by instants", self.at("engine"), self.at("hand"))
-            print(f"{kind:<9} {rows:>8} {rows / mine:>10.0f} {rows / hand:>10.0f} {hand / mine:>6.2f}", flush=True)
+            print(f"{kind:<9} {rows:>8} {rows / mine:>10.0f} {rows / hand:>10.0f} "
+                  f"{hand / mine:>6.2f}", flush=True)
 
     def many(self):
-        """Heartbeats of a stream that one query reads and that 256 read: no drain comes between them."""
+        """Heartbeats of a stream that 1 query reads and that 256 read: no drain is between them."""
         print()
         for rows, stride, beats in ((0, 1, 5_000), (512, 64, 1_000)):
             beats = max(100, int(beats * self.share))
@@ -227,29 +242,36 @@ class Bench:
             for queries in (1, 256):
                 for count in (0, beats):
                     self.beats(queries, count, stride, rows)
-                    seconds[queries, count] = least([self.engine], self.at("script"), self.at("engine"))
+                    seconds[queries, count] = least([self.engine], self.at("script"),
+                                                    self.at("engine"))
                     refuse_faults(self.at("engine"))
                 bytes_held[queries] = peak([self.engine], self.at("script"), self.at("engine"))
-            one, many = ((seconds[queries, beats] - seconds[queries, 0]) / beats * 1e6 for queries in (1, 256))
-            what = f"a heartbeat over {stride} instants and the append of their {rows} rows" if rows else "a heartbeat over 1 instant without rows"
+            one, many = ((seconds[queries, beats] - seconds[queries, 0]) / beats * 1e6
+                         for queries in (1, 256))
+            what = (f"a heartbeat over {stride} instants and the append of their {rows} rows"
+                    if rows else "a heartbeat over 1 instant without rows")
             print(f"{what}, {beats} of them without a drain: {one:.1f} microseconds"
-                  f" with 1 query, {many:.1f} with 256; ratio {many / one:.2f}, {(many - one) / 255:.3f} for a query more;"
+                  f" with 1 query, {many:.1f} with 256; ratio {many / one:.2f},"
+                  f" {(many - one) / 255:.3f} for a query more;"
                   f" peak memory {bytes_held[256] / bytes_held[1]:.2f} times", flush=True)
 
     def beats(self, queries, count, stride, rows):
         draw = random.Random(3)
         with open(self.at("script"), "w") as out:
             lines = declared("A")
-            lines += [{"op": "query", "name": f"q{n}", "text": TEXTS["range"].format(span=100)} for n in range(queries)]
+            text = TEXTS["range"].format(span=100)
+            lines += [{"op": "query", "name": f"q{n}", "text": text} for n in range(queries)]
             for first in range(0, count * stride, stride):
                 if rows > 0:
-                    batch = [[first + n * stride // rows, draw.randrange(64), draw.randrange(1000)] for n in range(rows)]
+                    batch = [[first + n * stride // rows, draw.randrange(64), draw.randrange(1000)]
+                             for n in range(rows)]
                     lines.append({"op": "append", "stream": "A", "rows": batch})
                 lines.append({"op": "heartbeat", "stream": "A", "at": first + stride - 1})
             out.writelines(json.dumps(line, separators=(",", ":")) + "\n" for line in lines)
 
     def memory(self):
-        """The bytes that a row takes: held by a window, not yet closed, and closed and given; one of 8 of its instant, and alone there."""
+        """The bytes that a row takes: held by a window, not yet closed, and closed and given; one
+        of 8 of its instant, and alone there."""
         few, more = 20_000, 20_000 + int(400_000 * self.share)
         print()
         for columns in (1, 2, 8):
@@ -260,12 +282,15 @@ class Bench:
                 for at_once in (ROWS, 1):
                     held = {}
                     for rows in (few, more):
-                        self.stored(names, f"Select Istream(Count(*)) From A [{window}]", rows, closes, at_once)
+                        text = f"Select Istream(Count(*)) From A [{window}]"
+                        self.stored(names, text, rows, closes, at_once)
                         held[rows] = peak([self.engine], self.at("script"), self.at("engine"))
                         refuse_faults(self.at("engine"))
                     bytes_each = (held[more] - held[few]) / (more - few)
-                    print(f"a row {what}, of {columns} columns, {at_once} at an instant: {bytes_each:.0f} bytes, "
-                          f"{bytes_each / (8 * columns):.1f} of its values' (goal: at most {3 * 8 * columns + 16})", flush=True)
+                    print(f"a row {what}, of {columns} columns, {at_once} at an instant: "
+                          f"{bytes_each:.0f} bytes, "
+                          f"{bytes_each / (8 * columns):.1f} of its values' "
+                          f"(goal: at most {3 * 8 * columns + 16})", flush=True)
 
     def stored(self, names, text, rows, closes, at_once):
         draw = random.Random(2)
@@ -275,7 +300,8 @@ class Bench:
             say({"op": "stream", "name": "A", "columns": names, "from": 0})
             say({"op": "query", "name": "q", "text": text})
             for first in range(0, rows, 512):
-                batch = [[(first + n) // at_once] + [draw.randrange(-1000, 1000) for _ in names] for n in range(min(512, rows - first))]
+                batch = [[(first + n) // at_once] + [draw.randrange(-1000, 1000) for _ in names]
+                         for n in range(min(512, rows - first))]
                 say({"op": "append", "stream": "A", "rows": batch})
                 if closes:
                     say({"op": "heartbeat", "stream": "A", "at": batch[-1][0]})

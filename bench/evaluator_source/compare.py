@@ -36,7 +36,8 @@ class Running:
         while self.drained < upto and not self.is_dropped:
             self.drained += 1
             now = relation(self.query, inputs, self.drained)
-            self.waiting += [[self.drained, *row] for row in answers(self.query.operator, self.before, now)]
+            self.waiting += [[self.drained, *row]
+                             for row in answers(self.query.operator, self.before, now)]
             self.before = now
 
 
@@ -50,11 +51,14 @@ class Script:
         for name in "ABC"[: self.random.randint(1, 3)]:
             first = self.random.choice([0, 0, 3])
             self.streams[name] = Stream([*"abcd"][: self.random.randint(1, 4)], first)
-            self.ask(DONE, op="stream", name=name, columns=self.streams[name].columns, **{"from": first})
+            self.ask(DONE, op="stream", name=name, columns=self.streams[name].columns,
+                     **{"from": first})
         for _ in range(self.random.randint(1, 4)):
             self.register()
-        calls = [self.append, self.heartbeat, self.drain, self.take, self.register, self.drop, self.forget]
-        for call in self.random.choices(calls, [45, 27, 13, 10, 3, 2, 10], k=self.random.randint(5, 40)):
+        calls = [self.append, self.heartbeat, self.drain, self.take, self.register, self.drop,
+                 self.forget]
+        weights = [45, 27, 13, 10, 3, 2, 10]
+        for call in self.random.choices(calls, weights, k=self.random.randint(5, 40)):
             call()
         self.drain()
         for number in range(len(self.queries)):
@@ -72,8 +76,10 @@ class Script:
     def row(self, stream):
         late = self.random.random() < 0.003
         later = self.random.choice([0, 0, 0, 1, 1, 2, 3, 5, 8, 12])
-        value = lambda: None if self.random.random() < 0.15 else self.random.randint(-self.greatest, self.greatest)
-        return [max(stream.closed if late else stream.closed + 1 + later, 0), *(value() for _ in stream.columns)]
+        value = lambda: (None if self.random.random() < 0.15
+                         else self.random.randint(-self.greatest, self.greatest))
+        at = max(stream.closed if late else stream.closed + 1 + later, 0)
+        return [at, *(value() for _ in stream.columns)]
 
     def append(self):
         name = self.random.choice([*self.streams])
@@ -91,7 +97,8 @@ class Script:
         stream = self.streams[name]
         at = max(stream.closed + self.random.choice([1, 1, 1, 1, 2, 2, 3, 3, 7, 7, 0, -1]), 0)
         is_backward = at <= stream.closed
-        self.ask({"error": "E11 Backward"} if is_backward else DONE, op="heartbeat", stream=name, at=at)
+        reply = {"error": "E11 Backward"} if is_backward else DONE
+        self.ask(reply, op="heartbeat", stream=name, at=at)
         stream.closed = max(stream.closed, at)
 
     def drain(self):
@@ -106,7 +113,8 @@ class Script:
     def of_some(self, number, reply, **request):
         """Asks for a query, which may have been dropped."""
         is_dropped = self.queries[number].is_dropped
-        self.ask({"error": "E6 UnknownQuery"} if is_dropped else reply, **request, query=f"q{number}")
+        reply = {"error": "E6 UnknownQuery"} if is_dropped else reply
+        self.ask(reply, **request, query=f"q{number}")
 
     def take(self, number=None, limit=None):
         number = self.random.randrange(len(self.queries)) if number is None else number
@@ -125,11 +133,14 @@ def is_foretold(program, seed, script):
     """Runs the script in each way; prints the first reply that was not foretold."""
     lines = [json.dumps(it, separators=(",", ":")) for it in script.requests]
     for way in WAYS:
-        ran = subprocess.run([program, *way], input="\n".join(lines) + "\n", stdout=subprocess.PIPE, text=True)
+        ran = subprocess.run([program, *way], input="\n".join(lines) + "\n",
+                             stdout=subprocess.PIPE, text=True)
         replies = [json.loads(it) for it in ran.stdout.splitlines()]
         if replies != script.replies:
-            at = next((i for i, (a, b) in enumerate(zip(replies, script.replies)) if a != b), len(replies))
-            print(f"script {seed}, {' '.join(way)}, request {at + 1}: got {replies[at : at + 1]}, foretold {script.replies[at : at + 1]}")
+            at = next((i for i, (a, b) in enumerate(zip(replies, script.replies)) if a != b),
+                      len(replies))
+            print(f"script {seed}, {' '.join(way)}, request {at + 1}: got {replies[at : at + 1]}, "
+                  f"foretold {script.replies[at : at + 1]}")
             print("\n".join(lines[: at + 1]), flush=True)
             return False
     return True
@@ -142,7 +153,8 @@ def main(program, count, first):
         good += is_foretold(program, seed, script)
         rows += sum(len(it.get("rows", [])) for it in script.replies)
         faults += sum("error" in it for it in script.replies)
-    print(f"{good} of {count} scripts as foretold, with {rows} answers and {faults} faults, each in {len(WAYS)} ways")
+    print(f"{good} of {count} scripts as foretold, with {rows} answers and {faults} faults, "
+          f"each in {len(WAYS)} ways")
     return good < count
 
 

@@ -6,12 +6,17 @@ ALIASES = "xyzw"
 
 
 class Window:
-    """Rows of the last `span` instants, at multiples of `step` alone where there is one; or, where `span` is None, the `last`
-    rows of each partition, or all where that is None too. `is_short` is of one that holds few rows."""
+    """Rows of the last `span` instants, at multiples of `step` only where there is one.
+
+    Where `span` is None, the `last` rows of each partition, or all where that is None too.
+    `is_short` is of one that holds few rows.
+    """
 
     def __init__(self, random, columns, is_short):
         self.span, self.step, self.last, self.partition = None, None, None, ()
-        kind = random.choice(["Now", "Range", "Slide", "Slide", "Rows", "Partition By", *["", "Range Unbounded", "Rows Unbounded"] * (not is_short)])
+        kinds = ["Now", "Range", "Slide", "Slide", "Rows", "Partition By"]
+        whole = ["", "Range Unbounded", "Rows Unbounded"]
+        kind = random.choice([*kinds, *whole * (not is_short)])
         self.text = f"[{kind}]" if kind else ""
         if kind == "Now":
             self.span = 0
@@ -27,17 +32,23 @@ class Window:
             self.text = f"[Rows {self.last}]"
         elif kind == "Partition By":
             self.last = random.choice([1, 2, 3])
-            self.partition = random.sample(range(len(columns)), random.randint(1, min(3, len(columns))))
-            self.text = f"[Partition By {', '.join(columns[it] for it in self.partition)} Rows {self.last}]"
+            count = random.randint(1, min(3, len(columns)))
+            self.partition = random.sample(range(len(columns)), count)
+            names = ", ".join(columns[it] for it in self.partition)
+            self.text = f"[Partition By {names} Rows {self.last}]"
 
 
 def condition_of(random, width, depth=0):
     """A condition over columns, as evaluate.truth takes it."""
-    kind = random.choices(["or", "and", "not", "compare"], [20, 15, 15, 50])[0] if depth < 3 else "compare"
+    kind = "compare"
+    if depth < 3:
+        kind = random.choices(["or", "and", "not", "compare"], [20, 15, 15, 50])[0]
     if kind == "compare":
-        second = (True, random.randrange(width)) if random.random() < 0.4 else (False, random.randint(-3, 6))
+        second = ((True, random.randrange(width)) if random.random() < 0.4
+                  else (False, random.randint(-3, 6)))
         return (kind, random.choice([*COMPARISONS]), (True, random.randrange(width)), second)
-    return (kind, *(condition_of(random, width, depth + 1) for _ in range(1 if kind == "not" else 2)))
+    parts = range(1 if kind == "not" else 2)
+    return (kind, *(condition_of(random, width, depth + 1) for _ in parts))
 
 
 def condition_text(condition, names):
@@ -56,15 +67,19 @@ class Query:
     def __init__(self, random, columns):
         self.operator = random.choice(["Istream", "Dstream", "Rstream"])
         self.is_distinct = random.random() < 0.25
-        self.streams = random.choices([*columns], k=random.choices([1, 2, 3, 4], [50, 30, 12, 8])[0])
+        count = random.choices([1, 2, 3, 4], [50, 30, 12, 8])[0]
+        self.streams = random.choices([*columns], k=count)
         self.windows = [Window(random, columns[it], len(self.streams) > 2) for it in self.streams]
         sides = [columns[it] for it in self.streams]
-        self.names = sides[0] if len(sides) == 1 else [f"{side}.{it}" for side, names in zip(ALIASES, sides) for it in names]
+        self.names = sides[0] if len(sides) == 1 else [
+            f"{side}.{it}" for side, names in zip(ALIASES, sides) for it in names
+        ]
         self.conditions = []
         before = len(sides[0])
         for side in sides[1:]:
             for _ in range(random.choice([1, 1, 1, 2])):
-                key = [(True, random.randrange(before)), (True, before + random.randrange(len(side)))]
+                key = [(True, random.randrange(before)),
+                       (True, before + random.randrange(len(side)))]
                 random.shuffle(key)
                 self.conditions.append(("compare", "=", *key))
             before += len(side)
@@ -76,14 +91,17 @@ class Query:
     def choose_items(self, random):
         width = len(self.names)
         some = lambda least, most: [
-            (random.choice(["Count", "Sum", "Min", "Max"]), random.randrange(width)) for _ in range(random.randint(least, most))
+            (random.choice(["Count", "Sum", "Min", "Max"]), random.randrange(width))
+            for _ in range(random.randint(least, most))
         ] + [("Count", None)] * random.randint(0, 1)
         kind = random.choices(["by groups", "all in one", "*", "columns"], [35, 15, 15, 35])[0]
         self.is_grouped = kind in ("by groups", "all in one")
         self.has_all = kind == "*"
-        self.group_by = random.sample(range(width), random.randint(1, min(3, width))) if kind == "by groups" else []
+        self.group_by = []
         if kind == "by groups":
-            self.items = [(None, it) for it in self.group_by if random.random() < 0.5] + some(0, 3) or [(None, self.group_by[0])]
+            self.group_by = random.sample(range(width), random.randint(1, min(3, width)))
+            self.items = [(None, it) for it in self.group_by if random.random() < 0.5] + some(0, 3)
+            self.items = self.items or [(None, self.group_by[0])]
             random.shuffle(self.items)
         elif kind == "all in one":
             self.items = some(1, 3)
@@ -101,9 +119,14 @@ class Query:
         body = "*" if self.has_all else ", ".join(self.item_text(it) for it in self.items)
         body = "Distinct " * self.is_distinct + body
         aliases = [""] if len(self.streams) == 1 else ALIASES
-        rest = " From " + ", ".join(f"{name} {it.text} {alias}" for name, it, alias in zip(self.streams, self.windows, aliases))
+        sources = zip(self.streams, self.windows, aliases)
+        rest = " From " + ", ".join(f"{name} {it.text} {alias}" for name, it, alias in sources)
         if self.conditions:
-            rest += " Where " + " And ".join(f"({condition_text(it, self.names)})" if it[0] == "or" else condition_text(it, self.names) for it in self.conditions)
+            rest += " Where " + " And ".join(
+                f"({condition_text(it, self.names)})" if it[0] == "or"
+                else condition_text(it, self.names)
+                for it in self.conditions
+            )
         if self.group_by:
             rest += " Group By " + ", ".join(self.names[it] for it in self.group_by)
         if random.random() < 0.5:

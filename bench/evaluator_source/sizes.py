@@ -1,6 +1,7 @@
-"""Writes examples/sizes.jsonl, as large as the limits allow, and the replies to it, by the rules alone.
+"""Writes examples/sizes.jsonl, as large as the limits allow, and the replies, by the rules only.
 
-usage: python3 bench/evaluator_source/sizes.py, at the top of the repository; `bench/evaluator` tries random scripts.
+usage: python3 bench/evaluator_source/sizes.py, at the top of the repository. `bench/evaluator`
+tries random scripts.
 """
 
 import json
@@ -20,34 +21,41 @@ def window(span=None, last=None):
 
 def query(text, operator, streams, windows, items, conditions=(), group_by=(), is_grouped=False):
     shape = SimpleNamespace(
-        windows=windows, items=items, conditions=conditions, group_by=group_by, is_grouped=is_grouped, is_distinct=False
+        windows=windows, items=items, conditions=conditions, group_by=group_by,
+        is_grouped=is_grouped, is_distinct=False,
     )
     return SimpleNamespace(text=text, operator=operator, streams=streams, shape=shape)
 
 
 NOW = query("Select Istream(*) From S [Now]", "Istream", "S", [window(span=0)], [(None, 0)])
 LAST = query(
-    "Rstream(Select Count(*), Sum(a) From S [Rows 2])", "Rstream", "S", [window(last=2)], [("Count", None), ("Sum", 0)],
+    "Rstream(Select Count(*), Sum(a) From S [Rows 2])", "Rstream", "S", [window(last=2)],
+    [("Count", None), ("Sum", 0)],
     is_grouped=True,
 )
 LEFT = query(
     "Select Dstream(a) From S [Range 1] Where a > 1", "Dstream", "S", [window(span=1)], [(None, 0)],
     [("compare", ">", (True, 0), (False, 1))],
 )
-ROWS = query("Select Istream(*) From L [Now]", "Istream", "L", [window(span=0)], [(None, 0), (None, 1)])
+ROWS = query(
+    "Select Istream(*) From L [Now]", "Istream", "L", [window(span=0)], [(None, 0), (None, 1)],
+)
 SUMS = query(
-    "Rstream(Select k, Count(*), Sum(v) From L [Rows 1024] Group By k)", "Rstream", "L", [window(last=1024)],
+    "Rstream(Select k, Count(*), Sum(v) From L [Rows 1024] Group By k)", "Rstream", "L",
+    [window(last=1024)],
     [(None, 0), ("Count", None), ("Sum", 1)], group_by=(0,), is_grouped=True,
 )
 PAIRS = query(
-    "Select Istream(L.v) From L [Now], R [Now] Where L.k = R.k", "Istream", "LR", [window(span=0), window(span=0)],
+    "Select Istream(L.v) From L [Now], R [Now] Where L.k = R.k", "Istream", "LR",
+    [window(span=0), window(span=0)],
     [(None, 1)], [("compare", "=", (True, 0), (True, 2))],
 )
 
 
 def answers_of(it, streams, upto):
     """All answers of a query that was registered before the first row came."""
-    inputs = [[(at, number, tuple(row)) for number, (at, *row) in enumerate(streams[name])] for name in it.streams]
+    inputs = [[(at, number, tuple(row)) for number, (at, *row) in enumerate(streams[name])]
+              for name in it.streams]
     before, rows = Counter(), []
     for instant in range(upto + 1):
         now = relation(it.shape, inputs, instant)
@@ -61,8 +69,9 @@ def script():
     columns = {"S": ["a"], "L": ["k", "v"], "R": ["k"]}
     streams = {
         "S": [[0, 1], [0, 2], [1, 3], [3, 4]],
-        # half of the rows of each instant have the key 0, and every append has rows of both instants
-        "L": [[number // 2 % 2, number % 2, number * 7 % LARGEST_TAKE] for number in range(LARGEST_TAKE)],
+        # half of the rows of each instant have the key 0; every append has rows of both instants
+        "L": [[number // 2 % 2, number % 2, number * 7 % LARGEST_TAKE]
+              for number in range(LARGEST_TAKE)],
         # the first three rows meet 1,024 rows each, all in one turn
         "R": [[0, 0], [0, 1], [0, 0], [1, 1]],
     }
@@ -73,10 +82,12 @@ def script():
     for number, it in enumerate(queries):
         yield {"op": "query", "name": f"q{number}", "text": it.text}, DONE
     yield {"op": "query", "name": "more", "text": NOW.text}, {"error": "E4 TooMany"}
-    yield {"op": "append", "stream": "L", "rows": streams["L"][: LARGEST_APPEND + 1]}, {"error": "E4 TooMany"}
+    rows = streams["L"][: LARGEST_APPEND + 1]
+    yield {"op": "append", "stream": "L", "rows": rows}, {"error": "E4 TooMany"}
     for name, rows in streams.items():
         for first in range(0, len(rows), LARGEST_APPEND):
-            yield {"op": "append", "stream": name, "rows": rows[first : first + LARGEST_APPEND]}, DONE
+            some = rows[first : first + LARGEST_APPEND]
+            yield {"op": "append", "stream": name, "rows": some}, DONE
     upto = 3
     for name in columns:
         yield {"op": "heartbeat", "stream": name, "at": upto}, DONE
@@ -93,10 +104,11 @@ def script():
 
 
 def rows_of_four_sources():
-    """As many rows as queries of three and four sources let their streams take; nothing is closed of them."""
+    """As many rows as queries of three and four sources let their streams take; none is closed."""
     append = lambda stream, count: {"op": "append", "stream": stream, "rows": [[5, 0]] * count}
     register = lambda name, sources, keys: {
-        "op": "query", "name": name, "text": f"Select Istream(*) From {sources} Where w.a = x.a{keys}"
+        "op": "query", "name": name,
+        "text": f"Select Istream(*) From {sources} Where w.a = x.a{keys}",
     }
     full = {"error": "E13 StreamFull"}
     for number in range(4):

@@ -1,4 +1,4 @@
-"""Runs scripts over a hub with each growth refused in turn: bench/hub_memory says what has to hold."""
+"""Runs scripts over a hub, each growth refused in turn: bench/hub_memory says what has to hold."""
 
 import json
 import os
@@ -22,11 +22,12 @@ def ran(program, words, script, environment=None):
     """The status and the replies of a run, and whether a growth was refused."""
     run = subprocess.run([program, *words], input=script, env=environment,
                          capture_output=True, text=True, timeout=60)
-    return run.returncode, [json.loads(line) for line in run.stdout.splitlines()], "refused\n" in run.stderr
+    replies = [json.loads(line) for line in run.stdout.splitlines()]
+    return run.returncode, replies, "refused\n" in run.stderr
 
 
 def twice(requests):
-    """Each request and then the same once more, so that one that was refused memory is made again."""
+    """Each request and then the same once more: one that was refused memory is made again."""
     return [request for request in requests for _ in range(2)]
 
 
@@ -44,7 +45,10 @@ def plain(program, requests):
 
 
 def check(program, workers, requests, refuse, number):
-    """What a run with this growth refused came to: nothing was refused, it ended at the start, or a call was told so."""
+    """What a run with this growth refused came to.
+
+    Nothing was refused, it ended at the start, or a call was told so.
+    """
     words = [f"--workers={workers}"]
     status, replies, was_refused = ran(program, words, lines(requests), refusing(refuse, number))
     if not was_refused:
@@ -52,26 +56,31 @@ def check(program, workers, requests, refuse, number):
     if status == 3:
         assert replies == [], f"growth {number}: status 3 after {len(replies)} replies"
         return "at the start"
-    assert status == 0 and len(replies) == len(requests), f"growth {number}: status {status}, {len(replies)} replies"
+    assert status == 0 and len(replies) == len(requests), (
+        f"growth {number}: status {status}, {len(replies)} replies")
     told = [place for place, reply in enumerate(replies) if reply == WANT]
     assert len(told) <= 1, f"growth {number}: {len(told)} requests are told want of memory"
     if not told:
-        # a growth that could be done without, as of a map that has room, or of a thread that others stand in for
-        assert replies == plain(program, requests), f"growth {number}: no reply tells want of memory, and the replies differ"
+        # a growth that could be done without, as of a map that has room, or of a thread that others
+        # stand in for
+        assert replies == plain(program, requests), (
+            f"growth {number}: no reply tells want of memory, and the replies differ")
         return "done without"
     place = told[0]
     if requests[place]["op"] == "drain":
         return compare_drain(program, requests, replies, place, number)
     wanted = plain(program, requests[:place] + requests[place + 1:])
     found = replies[:place] + replies[place + 1:]
-    assert found == wanted, f"growth {number}: behind request {place}, {requests[place]}, the replies differ"
+    assert found == wanted, (
+        f"growth {number}: behind request {place}, {requests[place]}, the replies differ")
     return requests[place]["op"]
 
 
 def compare_drain(program, requests, replies, place, number):
     """A drain keeps what it finished, and may have broken one query: its answers end early."""
     wanted = plain(program, requests)
-    assert replies[:place] == wanted[:place], f"growth {number}: before request {place}, {requests[place]}, the replies differ"
+    assert replies[:place] == wanted[:place], (
+        f"growth {number}: before request {place}, {requests[place]}, the replies differ")
     given, all_given, broken = {}, {}, set()
     for request, reply, want in list(zip(requests, replies, wanted))[place + 1:]:
         if request["op"] != "take" or "rows" not in want:
@@ -91,7 +100,10 @@ def compare_drain(program, requests, replies, place, number):
 
 
 def asked(port, script):
-    """All that a server answers to a script. One that ends meanwhile, or ends the connection, may have answered less."""
+    """All that a server answers to a script.
+
+    One that ends meanwhile, or ends the connection, may have answered less.
+    """
     answered = b""
     try:
         with socket.create_connection(("127.0.0.1", port), 60) as connection:
@@ -107,10 +119,12 @@ def asked(port, script):
 
 
 def served(program, requests, refuse, number):
-    """The status and the replies of a server of one connection, whether a growth was refused, and what it said of errors."""
+    """The status and the replies of a server of one connection, whether a growth was refused, and
+    what it said of errors."""
     words = [program, "--port=0", "--workers=1", "--clients=1", "--serve=1"]
     pipe = subprocess.PIPE
-    with subprocess.Popen(words, env=refusing(refuse, number), stdout=pipe, stderr=pipe, text=True) as server:
+    with subprocess.Popen(words, env=refusing(refuse, number), stdout=pipe, stderr=pipe,
+                          text=True) as server:
         try:
             line, replies = server.stdout.readline(), []
             if line.startswith("cqld: listening on 127.0.0.1:"):
@@ -123,7 +137,8 @@ def served(program, requests, refuse, number):
 
 
 def given(requests, replies):
-    """The rows that each query handed out, by the order of registration, and the places of those that are broken."""
+    """The rows that each query handed out, by the order of registration, and the places of those
+    that are broken."""
     rows, broken, places = [], set(), {}
     for request, reply in zip(requests, replies, strict=True):
         if request["op"] == "query" and "ok" in reply:
@@ -137,7 +152,8 @@ def given(requests, replies):
 
 
 def all_answers(program, requests):
-    """All that each query of a script has to hand out until it is dropped, or until the end, by the order of registration."""
+    """All that each query of a script has to hand out until it is dropped, or until the end, by
+    the order of registration."""
     def take_all(query):
         return [{"op": "drain"}, {"op": "take", "query": query, "limit": TAKE}]
 
@@ -155,7 +171,8 @@ def all_answers(program, requests):
 
 
 def check_served(program, plain_program, requests, refuse, number):
-    """The same of a connection. A worker runs turns beside the client, so a take may hand out fewer rows, and a later one more.
+    """The same of a connection. A worker runs turns beside the client, so a take may hand out
+    fewer rows, and a later one more.
 
     The growth that is refused may be a worker's. Then no reply tells it, and a query may be broken.
     """
@@ -168,15 +185,18 @@ def check_served(program, plain_program, requests, refuse, number):
         return "at the connection's start"
     assert len(replies) == len(requests), f"growth {number}: {len(replies)} replies"
     told = [place for place, reply in enumerate(replies) if reply == WANT]
-    assert len(told) <= was_refused, f"growth {number}: {len(told)} requests are told want of memory"
+    assert len(told) <= was_refused, (
+        f"growth {number}: {len(told)} requests are told want of memory")
     made = [request for place, request in enumerate(requests) if place not in told]
     found = [reply for place, reply in enumerate(replies) if place not in told]
     for request, reply, want in zip(made, found, plain(plain_program, made), strict=True):
-        is_right = reply == want or ("rows" in want and ("rows" in reply or (was_refused and reply == BROKEN)))
+        is_right = reply == want or (
+            "rows" in want and ("rows" in reply or (was_refused and reply == BROKEN)))
         assert is_right, f"growth {number}: {request} is answered {reply}"
     rows, broken = given(made, found)
     for some, every in zip(rows, all_answers(plain_program, made), strict=True):
-        assert some == every[:len(some)], f"growth {number}: a query gives {some}, which do not begin {every}"
+        assert some == every[:len(some)], (
+            f"growth {number}: a query gives {some}, which do not begin {every}")
     assert len(broken) <= was_refused, f"growth {number}: {len(broken)} queries are broken"
     if told:
         return requests[told[0]]["op"]
@@ -187,7 +207,7 @@ def check_served(program, plain_program, requests, refuse, number):
 
 
 def sweep(name, script, check_one):
-    """Refuses one growth after the other, until a whole block of runs has so few that none is refused."""
+    """Refuses one growth after the other, until none is refused in a whole block of runs."""
     with open(script) as file:
         requests = twice([json.loads(line) for line in file])
     counts, number, is_done = {}, 1, False
@@ -210,7 +230,8 @@ def main(cqlrun, cqld, refuse):
     for workers, script in [(1, two_streams), (1, first), (2, two_streams)]:
         sweep(f"cqlrun --workers {workers}", script,
               lambda requests, number: check(cqlrun, workers, requests, refuse, number))
-    sweep("cqld", two_streams, lambda requests, number: check_served(cqld, cqlrun, requests, refuse, number))
+    sweep("cqld", two_streams,
+          lambda requests, number: check_served(cqld, cqlrun, requests, refuse, number))
 
 
 main(*sys.argv[1:])

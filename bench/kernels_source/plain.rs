@@ -2,7 +2,8 @@
 use std::hint::black_box;
 use std::time::Instant;
 
-/// How many calls are timed together, so few that a round mostly ends before another process comes in between.
+/// How many calls are timed together, so few that a round mostly ends before another process comes
+/// in between.
 const CALLS: u32 = 200;
 
 /// How many rounds, of which the quickest counts.
@@ -21,7 +22,14 @@ fn compare_const(numbers: &[i64], valid: &[u64], c: i64, truth: &mut [u64], know
 }
 
 #[inline(never)]
-fn compare_columns(xs: &[i64], xv: &[u64], ys: &[i64], yv: &[u64], truth: &mut [u64], known: &mut [u64]) {
+fn compare_columns(
+    xs: &[i64],
+    xv: &[u64],
+    ys: &[i64],
+    yv: &[u64],
+    truth: &mut [u64],
+    known: &mut [u64],
+) {
     for w in 0..xv.len() {
         let mut word = 0u64;
         for k in 0..64 {
@@ -72,13 +80,24 @@ fn count_set(words: &[u64]) -> u32 {
 
 #[inline(never)]
 fn count_signed(valid: &[u64], minus: &[u64]) -> i64 {
-    let signs = |(word, minus): (&u64, &u64)| word.count_ones() as i64 - 2 * (word & minus).count_ones() as i64;
+    let signs = |(word, minus): (&u64, &u64)| {
+        word.count_ones() as i64 - 2 * (word & minus).count_ones() as i64
+    };
     valid.iter().zip(minus).map(signs).sum()
 }
 
 /// `x > c And y < d Or x = y`, row by row; it is unknown where it is neither true nor false.
 #[inline(never)]
-fn run_condition(xs: &[i64], xv: &[u64], ys: &[i64], yv: &[u64], c: i64, d: i64, truth: &mut [u64], known: &mut [u64]) {
+fn run_condition(
+    xs: &[i64],
+    xv: &[u64],
+    ys: &[i64],
+    yv: &[u64],
+    c: i64,
+    d: i64,
+    truth: &mut [u64],
+    known: &mut [u64],
+) {
     for w in 0..xv.len() {
         let (mut yes, mut no) = (0u64, 0u64);
         for k in 0..64 {
@@ -111,8 +130,13 @@ fn main() {
     let (valid, minus) = (vec![u64::MAX; 16], vec![0x5555_aaaa_0f0f_3333u64; 16]);
     let (mut truth, mut known) = (vec![0u64; 16], vec![0u64; 16]);
     let (mut other, mut known_other) = (vec![0u64; 16], vec![0u64; 16]);
-    report("compare_const", |i| compare_const(black_box(&a), &valid, i as i64, black_box(&mut truth), &mut known));
-    report("compare_columns", |_| compare_columns(black_box(&a), &valid, &b, &valid, black_box(&mut other), &mut known_other));
+    report("compare_const", |i| {
+        compare_const(black_box(&a), &valid, i as i64, black_box(&mut truth), &mut known)
+    });
+    report("compare_columns", |_| {
+        let other = black_box(&mut other);
+        compare_columns(black_box(&a), &valid, &b, &valid, other, &mut known_other)
+    });
     let (t, k, u, l) = (truth.clone(), known.clone(), other.clone(), known_other.clone());
     report("not3", |_| not3(black_box(&t), &k, black_box(&mut truth), &mut known));
     report("and3", |_| and3(black_box(&t), &k, &u, &l, black_box(&mut truth), &mut known));
@@ -126,5 +150,8 @@ fn main() {
     report("count_signed", |_| {
         black_box(count_signed(black_box(&valid), &minus));
     });
-    report("run_condition", |i| run_condition(black_box(&a), &valid, &b, &valid, i as i64, black_box(1000), black_box(&mut truth), &mut known));
+    report("run_condition", |i| {
+        let (d, truth) = (black_box(1000), black_box(&mut truth));
+        run_condition(black_box(&a), &valid, &b, &valid, i as i64, d, truth, &mut known)
+    });
 }

@@ -59,7 +59,8 @@ impl<K: Hash + Eq> Counts<K> for HashMap<K, u64> {
     }
 }
 
-/// A number below `room`, a power of two, for each number below it, in an order that looks like none.
+/// A number below `room`, a power of two, for each number below it, in an order that looks like
+/// none.
 fn mixed(number: usize, room: usize) -> usize {
     (0..3).fold(number, |mixed, _| {
         let mixed = mixed * 603_913 % room;

@@ -1,4 +1,5 @@
-"""Rows that come and go: the peak of memory of cqlrun after each million. bench/memory says what is printed."""
+"""Rows that come and go: the peak of memory of cqlrun after each million. bench/memory says what is
+printed."""
 
 import json
 import random
@@ -53,7 +54,8 @@ def main():
         ask(program, op="query", name=name, text=text)
     rows, answers, at, peaks = 0, 0, 0, []
     while rows < millions * MILLION:
-        batch = [[at + i // INSTANT_ROWS, draw.randrange(64), draw.randrange(1_000)] for i in range(INSTANTS * INSTANT_ROWS)]
+        batch = [[at + i // INSTANT_ROWS, draw.randrange(64), draw.randrange(1_000)]
+                 for i in range(INSTANTS * INSTANT_ROWS)]
         at += INSTANTS
         ask(program, op="append", stream="S", rows=batch)
         ask(program, op="heartbeat", stream="S", at=at - 1)

@@ -1,5 +1,6 @@
-"""Writes scripts of request lines into a folder: two streams of few values, so that rows are repeated, leave and come again, and
-every kind of query over them. What comes at an instant is none, few or, in one script, more rows than a batch has."""
+"""Writes scripts of request lines into a folder: two streams of few values, so that rows are
+repeated, leave and come again, and every kind of query over them. What comes at an instant is none,
+few or, in one script, more rows than a batch has."""
 import json
 import random
 import sys
@@ -38,7 +39,8 @@ def value(chance):
 
 
 def rows(chance, at, width, least, most):
-    return [[at] + [value(chance) for _ in range(width)] for _ in range(chance.randrange(least, most + 1))]
+    return [[at] + [value(chance) for _ in range(width)]
+            for _ in range(chance.randrange(least, most + 1))]
 
 
 def texts(chance, windows, joins):
@@ -69,7 +71,8 @@ def script(seed, instants, least, most, joins, drains, windows=WINDOWS):
         stream = min(closed, key=closed.get) if chance.random() < 0.8 else chance.choice("ST")
         width = 3 if stream == "S" else 2
         later = closed[stream] + 1 + chance.randrange(3)
-        more = rows(chance, closed[stream] + 1, width, least, most) + rows(chance, later, width, 0, most // 2)
+        more = (rows(chance, closed[stream] + 1, width, least, most)
+                + rows(chance, later, width, 0, most // 2))
         chance.shuffle(more)
         for first in range(0, len(more), 1000):
             lines.append({"op": "append", "stream": stream, "rows": more[first : first + 1000]})
@@ -78,7 +81,8 @@ def script(seed, instants, least, most, joins, drains, windows=WINDOWS):
             lines.append({"op": "heartbeat", "stream": stream, "at": closed[stream]})
         if chance.random() < drains:
             lines.append({"op": "drain"})
-            lines.append({"op": "take", "query": chance.choice(names), "limit": chance.randrange(1, 20)})
+            lines.append({"op": "take", "query": chance.choice(names),
+                          "limit": chance.randrange(1, 20)})
     return "".join(json.dumps(line) + "\n" for line in lines)
 
 

@@ -1,4 +1,5 @@
-// Loaded before a program, refuses its allocation number REFUSE_AT (from 1 on) and says so on standard error. Threads count together.
+// Loaded before a program, refuses its allocation number REFUSE_AT (from 1 on) and says so on
+// standard error. Threads count together.
 #include <errno.h>
 #include <stdatomic.h>
 #include <stddef.h>
@@ -39,7 +40,9 @@ void *calloc(size_t count, size_t size) { return is_refused() ? NULL : __libc_ca
 
 void *realloc(void *old, size_t size) { return is_refused() ? NULL : __libc_realloc(old, size); }
 
-void *aligned_alloc(size_t alignment, size_t size) { return is_refused() ? NULL : __libc_memalign(alignment, size); }
+void *aligned_alloc(size_t alignment, size_t size) {
+    return is_refused() ? NULL : __libc_memalign(alignment, size);
+}
 
 int posix_memalign(void **place, size_t alignment, size_t size) {
     if (is_refused()) {

@@ -167,7 +167,10 @@ impl Iterator for Cycles {
         }
         self.at += self.rows.div_ceil(INSTANT_ROWS);
         let lines = [
-            format!("{{\"op\":\"append\",\"stream\":\"S{client}\",\"rows\":[{}]}}\n", rows.join(",")),
+            format!(
+                "{{\"op\":\"append\",\"stream\":\"S{client}\",\"rows\":[{}]}}\n",
+                rows.join(",")
+            ),
             format!(
                 "{{\"op\":\"heartbeat\",\"stream\":\"S{client}\",\"at\":{}}}\n",
                 self.at - 1

@@ -1,4 +1,5 @@
-"""Runs each script with the first growth refused, then with the second, and so on until a run meets no refusal."""
+"""Runs each script with the first growth refused, then with the second, and so on until a run meets
+no refusal."""
 
 import json
 import os
@@ -12,10 +13,11 @@ BROKEN = {"error": "E15 Broken"}
 
 
 def ran(program, script, refuse, number):
-    """The replies, or None where the run ended before the first; whether a growth was refused; and whether a drain met that
-    before its first turn took anything, and left all as it was."""
+    """The replies, or None where the run ended before the first; whether a growth was refused; and
+    whether a drain met that before its first turn took anything, and left all as it was."""
     environment = {**os.environ, "LD_PRELOAD": refuse, "REFUSE_AT": str(number)}
-    run = subprocess.run([program], input=script, env=environment, capture_output=True, text=True, timeout=60)
+    run = subprocess.run([program], input=script, env=environment, capture_output=True, text=True,
+                         timeout=60)
     was_refused, has_spared = "refused\n" in run.stderr, "spared\n" in run.stderr
     if run.returncode != 0 and run.stdout == "":
         return None, was_refused, has_spared
@@ -47,12 +49,14 @@ def broken_query(requests, wanted, replies):
 
 
 def runs(program, refuse, script):
-    """The replies of each run, from the first growth refused to the run that meets no refusal, some at a time."""
+    """The replies of each run, from the first growth refused to the run that meets no refusal,
+    some at a time."""
     number = 1
     with ThreadPoolExecutor(os.cpu_count()) as pool:
         while True:
             some = range(number, number + 16 * os.cpu_count())
-            for replies, was_refused, has_spared in pool.map(lambda it: ran(program, script, refuse, it), some):
+            for replies, was_refused, has_spared in pool.map(
+                    lambda it: ran(program, script, refuse, it), some):
                 yield replies, was_refused, has_spared
                 if not was_refused:
                     return
@@ -60,8 +64,8 @@ def runs(program, refuse, script):
 
 
 def sweep(program, refuse, script, wanted):
-    """The growths refused, those at the start, those before the first turn of a drain, which break nothing, and which queries were
-    broken after how many answers, by turns and by drains."""
+    """The growths refused, those at the start, those before the first turn of a drain, which break
+    nothing, and which queries were broken after how many answers, by turns and by drains."""
     requests = [json.loads(line) for line in script.splitlines()]
     refused, at_start, spared, ends = 0, 0, 0, [Counter(), Counter()]
     for replies, was_refused, has_spared in runs(program, refuse, script):
@@ -70,7 +74,8 @@ def sweep(program, refuse, script, wanted):
             continue
         refused += 1
         if has_spared:
-            assert replies == wanted * 2, f"growth {refused}: a drain that took nothing broke a query"
+            assert replies == wanted * 2, (
+                f"growth {refused}: a drain that took nothing broke a query")
             spared += 1
             continue
         if replies is None:
@@ -94,9 +99,11 @@ def main(program, refuse, stdin, stdout):
         wanted, first = replies[first : first + count], first + count
         refused, at_start, spared, (by_turns, by_drains) = sweep(program, refuse, script, wanted)
         all_spared, seen = all_spared + spared, [seen[0] + by_turns, seen[1] + by_drains]
-        print(f"{count} requests: {refused} growths refused in turn, {at_start} of them at the start, {spared} before a drain's first turn")
+        print(f"{count} requests: {refused} growths refused in turn, "
+              f"{at_start} of them at the start, {spared} before a drain's first turn")
         for way, ends in ("turns", by_turns), ("drains", by_drains):
-            told = ", ".join(f"{name} after {rows} answers: {times}" for (name, rows), times in sorted(ends.items()))
+            told = ", ".join(f"{name} after {rows} answers: {times}"
+                             for (name, rows), times in sorted(ends.items()))
             print(f"  by {way}, broken {told or 'none'}", flush=True)
     assert all_spared, "each drain that wanted memory broke a query or ran turns"
     for way, ends in zip(("turns", "drains"), seen):

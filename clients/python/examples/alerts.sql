@@ -12,7 +12,7 @@ create query load as
   From Log [Range 30 seconds Slide 30 seconds] Every 30 seconds;
 
 create query logins as
-  Select Istream(ip, status) From Log [Now] Where path = '/login' And Not status = 200;
+  Select Rstream(ip, status) From Log [Now] Where path = '/login' And Not status = 200;
 
 copy Log from 'access.csv' time time;
 

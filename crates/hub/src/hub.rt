@@ -71,6 +71,8 @@ impl Hub {
     /// # Errors
     /// `BadLimit` if seats are not 1 to 64, or entries not 1 to 16,777,216; `OutOfMemory` when out
     /// of memory.
+    ///
+    /// Example: `an_opening_sets_limits` in crates/uses/src/hubs.rt.
     pub fn open(alloc: Global, seats: u64, history_limit: u64) -> Result<(Hub, Vec<Seat>), Fault>
         ensures ok { IfOk result (λ p.
             (p.0 ≡ seats) × (p.1.items ≡ map opened (range_with_len 0 seats))) }
@@ -93,6 +95,8 @@ impl Hub {
     /// # Errors
     /// Hub and seats come back if the seats' numbers are not those of `open`, each once, if a seat
     /// differs from the history, or if a call of another hub's seat was accepted.
+    ///
+    /// Example: `a_close_wants_every_seat` in crates/uses/src/hubs.rt.
     pub fn close(self, seats: Vec<Seat>) -> Result<Closed, (Hub, Vec<Seat>)>
         ensures legal { IfOk result (λ c. IsLegal (opening_in c.opening) c.entries.items) }
         ensures opens { IfOk result (λ c. OpensAt c.first (opening_in c.opening)) }

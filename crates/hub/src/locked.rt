@@ -37,6 +37,8 @@ pub const MAX_ENTRIES: u64 = 9_223_372_036_854_775_808;
 pub const MAX_SEATS: u64 = 64;
 
 /// Holds the history of a hub that was closed.
+///
+/// Example: `a_closed_hub_shows_its_history` in crates/uses/src/hubs.rt.
 #[derive(Drop)]
 pub struct Closed {
     /// Holds what the history starts with: no stream and no query, if the hub never forgot.

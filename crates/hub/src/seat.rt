@@ -58,6 +58,8 @@ impl Seat {
     }
 
     /// Returns its number at the hub.
+    ///
+    /// Example: `a_seat_keeps_receipts` in crates/uses/src/hubs.rt.
     pub fn number(&self) -> u64
         ensures { result ≡ self.now.number }
     {
@@ -73,6 +75,8 @@ impl Seat {
 
     /// Returns the receipts of its accepted calls that are not settled, in the order of their
     /// numbers.
+    ///
+    /// Example: `a_seat_keeps_receipts` in crates/uses/src/hubs.rt.
     pub fn receipts(&self) -> &[Receipt]
         ensures receipts { result.now ≡ self.now.receipts }
         ensures rising { IsRisingFrom 0 self.now.receipts }
@@ -92,6 +96,8 @@ impl Seat {
     }
 
     /// Returns one more than the greatest number that it settled, holds or has learnt.
+    ///
+    /// Example: `a_seat_keeps_receipts` in crates/uses/src/hubs.rt.
     pub fn reach(&self) -> u64
         ensures { result ≡ reach self.now }
     {
@@ -100,6 +106,8 @@ impl Seat {
 
     /// Notes a receipt of another seat: each later call of this one comes after it in the history.
     /// Takes neither memory nor a lock.
+    ///
+    /// Example: `a_seat_learns_of_another` in crates/uses/src/hubs.rt.
     pub fn learn(&mut self, receipt: &Receipt)
         ensures { self.new
             ≡ record self.old { learnt = max self.old.learnt (receipt.now.number + 1) } }

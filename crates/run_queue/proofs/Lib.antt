@@ -1,4 +1,7 @@
 pub mod SlotLemmas
 pub mod FirstLemmas
-pub mod MoveLemmas
 pub mod StandLemmas
+pub mod PlaceLemmas
+pub mod OrderLemmas
+pub mod TournamentLemmas
+pub mod KeptLemmas

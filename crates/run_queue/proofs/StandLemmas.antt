@@ -13,15 +13,15 @@ use Rattle.run_queue.specs.declared.slots.Slot.{Slot}
 use Rattle.run_queue.proofs.SlotLemmas.{all_kept, before_all, higher, kept, lower, same_before}
 
 -- WHERE IT GETS WHAT IT HAD nothing changes
-has_none : (s : Slot) (slots : List Slot) → AllByRecursion (λ t. slot_cmp s t ≡ Less) slots → has s slots ≡ false
+pub has_none : (s : Slot) (slots : List Slot) → AllByRecursion (λ t. slot_cmp s t ≡ Less) slots → has s slots ≡ false
 has_none s [] h = refl
 has_none s (y ∷ slots) h = let f : is_eq (slot_cmp y s) ≡ false = ap is_eq (lower s y h.0) in let g : has s slots ≡ false = has_none s slots h.1 in rw (f, g) refl
 
-put_first : (s : Slot) (slots : List Slot) → AllByRecursion (λ t. slot_cmp s t ≡ Less) slots → put slots s ≡ s ∷ slots
+pub put_first : (s : Slot) (slots : List Slot) → AllByRecursion (λ t. slot_cmp s t ≡ Less) slots → put slots s ≡ s ∷ slots
 put_first s [] h = refl
 put_first s (y ∷ slots) h = ap (λ o. match_ordering o (s ∷ y ∷ slots) (y ∷ slots) (y ∷ put slots s)) h.0
 
-before_rest : (s x : Slot) (slots : List Slot) → slot_cmp s x ≡ Less → AllByRecursion (λ t. slot_cmp x t ≡ Less) slots → AllByRecursion (λ t. slot_cmp s t ≡ Less) (x ∷ slots)
+pub before_rest : (s x : Slot) (slots : List Slot) → slot_cmp s x ≡ Less → AllByRecursion (λ t. slot_cmp x t ≡ Less) slots → AllByRecursion (λ t. slot_cmp s t ≡ Less) (x ∷ slots)
 before_rest s x slots l h = (l, before_all s x slots l h)
 
 behind_by : (b : Bool) (x s : Slot) (slots : List Slot) → slot_cmp s x ≡ Greater → cond b (put (without s slots) s) slots ≡ slots → cond b (put (x ∷ without s slots) s) (x ∷ slots) ≡ x ∷ slots
@@ -54,7 +54,7 @@ pub changed_nothing : (slots : List Slot) (s : Slot) (next : Option (Side × ℕ
 changed_nothing slots s next h stands e = ap (λ z. cond (has s slots) (put (without s slots) z) slots) e ∙ nothing_changes slots s h stands
 
 -- SLOTS AT ONE PLACE are of one operator
-then_equal : (o p : Ordering) → ordering_then o p ≡ Equal → (o ≡ Equal) × (p ≡ Equal)
+pub then_equal : (o p : Ordering) → ordering_then o p ≡ Equal → (o ≡ Equal) × (p ≡ Equal)
 then_equal Less p e = absurd (cc)
 then_equal Equal p e = (refl, e)
 then_equal Greater p e = absurd (cc)

@@ -1,18 +1,18 @@
 -- The slots of operators, and the order in which they are leased.
 use Rattle.std.specs.Prelude.{◌≡◌, ℕ, true, false, not, ◌==◌, Bool, cond, Option, Some, None}
-use Rattle.std.specs.Prelude.{unwrap_or, is_none, List, [], ◌∷◌, filter, length, ◌<◌, ◌≤◌, ◌+◌, ◌-◌}
-use Rattle.std.specs.List.{AllByRecursion, AllWithin, HoldsAt, insert, list_any, remove}
+use Rattle.std.specs.Prelude.{unwrap_or, is_none, List, [], ◌∷◌, filter}
+use Rattle.std.specs.List.{AllByRecursion, list_any}
 use Rattle.std.specs.Ordering.{bool_cmp, nat_cmp, is_eq, ordering_then}
 use Rattle.std.specs.BTreeSet.{insert_key}
 use Rattle.std.specs.declared.cmp.Ordering.{Ordering}
-use Rattle.std.specs.declared.cmp.Ordering.TheVariants.{Less, Equal, Greater}
+use Rattle.std.specs.declared.cmp.Ordering.TheVariants.{Equal}
 use Rattle.column.specs.declared.batch.Side.{Side}
 use Rattle.column.specs.declared.batch.Side.TheVariants.{Left}
 use Rattle.envelope.specs.Fraction.{Fraction, NoGreater, fraction_cmp}
 use Rattle.run_queue.specs.declared.slots.Slot.{Slot}
 
--- an operator's slot, with the side and the instant
--- of what it may take next, if it may take anything
+-- an operator's slot, with the side and the instant of what
+-- it may take next, if it may take anything
 abbrev pub slot : Fraction → Option (Side × ℕ) → ℕ → ℕ → Slot
 slot slope next query operator = record {
   is_idle = is_none next;
@@ -23,8 +23,8 @@ slot slope next query operator = record {
   side = (unwrap_or next (Left, 0)).0;
 }
 
--- those with something to take first, the greater slope first, then the earlier instant, then
--- the lower number of a query, then the lower number of an operator; the side decides nothing
+-- those with something to take first, the greater slope first, then the earlier instant, then the
+-- lower number of a query, then the lower number of an operator; the side decides nothing
 abbrev pub slot_cmp : Slot → Slot → Ordering
 slot_cmp a b = ordering_then (bool_cmp a.is_idle b.is_idle)
     (ordering_then (fraction_cmp b.slope.0 a.slope.0)
@@ -75,33 +75,9 @@ first_of (s ∷ slots) = cond s.is_idle None (Some s)
 
 -- no slot with something to take has a greater slope
 abbrev pub IsSteepest : List Slot → Slot → Type 0
-IsSteepest slots s = AllByRecursion (λ t. t.is_idle ≡ false → NoGreater t.slope.0 s.slope.0) slots
+IsSteepest slots s =
+    AllByRecursion (λ t. t.is_idle ≡ false → NoGreater t.slope.0 s.slope.0) slots
 
 -- none has anything to take
 abbrev pub AreIdle : List Slot → Type 0
 AreIdle slots = AllByRecursion (λ s. s.is_idle ≡ true) slots
-
--- WHERE A SLOT STANDS, and where it belongs
-pub record IsFound (slots : List Slot) (s : Slot) (i : ℕ) : Type 0 where
-  pub within : i < length slots
-  pub there : has s slots ≡ true
-  pub stays : put slots s ≡ slots
-  pub leaves : without s slots ≡ remove slots i
-  pub equal : HoldsAt (λ t. slot_cmp t s ≡ Equal) slots i
-
-pub record IsMissing (slots : List Slot) (s : Slot) (i : ℕ) : Type 0 where
-  pub within : i ≤ length slots
-  pub absent : has s slots ≡ false
-  pub comes : put slots s ≡ insert slots i s
-  pub below : AllWithin (λ t. slot_cmp t s ≡ Less) slots 0 i
-  pub above : AllWithin (λ t. slot_cmp t s ≡ Greater) slots i (length slots)
-
--- the slot stands at a place
-pub record IsAt (slots : List Slot) (s : Slot) (i : ℕ) : Type 0 where
-  pub within : i < length slots
-  pub equal : HoldsAt (λ t. slot_cmp t s ≡ Equal) slots i
-
--- it belongs between the neighbours of a place
-pub record IsBetween (slots : List Slot) (s : Slot) (i : ℕ) : Type 0 where
-  pub below : 0 < i → HoldsAt (λ t. slot_cmp t s ≡ Less) slots (i - 1)
-  pub above : i + 1 < length slots → HoldsAt (λ t. slot_cmp t s ≡ Greater) slots (i + 1)

@@ -1,34 +1,35 @@
-//! An operator's place among the others.
+//! Says where an operator is among the others.
 ghost use Rattle.std.specs.Prelude.{◌≡◌, ◌↔◌, cond, IsTrue, None, Some};
-ghost use Rattle.std.specs.declared.cmp.Ordering.TheVariants.{Equal, Greater, Less};
+ghost use Rattle.std.specs.declared.cmp.Ordering.TheVariants.{Equal, Less};
 ghost use Rattle.std.specs.Ordering.{is_gt};
 ghost use Rattle.envelope.specs.Fraction.{fraction_cmp};
+ghost use Rattle.run_queue.specs.Places.{place_cmp};
 ghost use Rattle.run_queue.specs.Slots.{goes_on, later_cmp, slot, slot_cmp, with_next};
 
 use column::Side;
 use envelope::Slope;
-use std::cmp::Reverse;
+use std::cmp::{Ordering, Reverse};
 
-/// An operator of a query, with the side and the instant of what it may take next, if it may take
-/// anything.
+/// Is an operator of a query, with the side and the instant of what it may take next, if it may
+/// take anything.
 ///
-/// Slots are ordered by their fields, from the first on: those with something to take first, of
-/// these the greater slope first, then the earlier instant, then the lower number of a query, then
-/// the lower number of an operator. The side is no part of the order.
+/// Slots are ordered by their fields, from the first on. Those with something to take come first.
+/// Of these the greater slope is first, then the earlier instant, then the lower number of a query,
+/// then the lower number of an operator. The side is no part of the order.
 #[derive(Drop)]
 #[derive_where(Clone, Copy, PartialEq, Eq, PartialOrd, Ord)]
 pub struct Slot {
-    /// Whether the operator may take nothing.
+    /// Says whether the operator may take nothing.
     is_idle: bool,
-    /// The operator's slope in its plan; the greater one comes first.
+    /// Holds the operator's slope in its plan; the greater one comes first.
     slope: Reverse<Slope>,
-    /// The instant of what the operator may take next; 0 where it is idle.
+    /// Holds the instant of what the operator may take next; 0 if it is idle.
     instant: u64,
-    /// The number of the query.
+    /// Holds the number of the query.
     query: u64,
-    /// The number of the operator in its query.
+    /// Holds the number of the operator in its query.
     operator: usize,
-    /// The side on which that waits; the left one where the operator is idle.
+    /// Holds the side on which that waits; the left one if the operator is idle.
     #[derive_where(skip(EqHashOrd))]
     side: Side,
 }
@@ -50,7 +51,7 @@ impl Slot {
         }
     }
 
-    /// The slot of the same operator with something else to take, or nothing.
+    /// Returns the slot of the same operator with something else to take, or nothing.
     pub fn with_next(self, next: Option<(Side, u64)>) -> Slot
         ensures { result ≡ with_next self next }
     {
@@ -63,7 +64,7 @@ impl Slot {
         }
     }
 
-    /// Whether the slot says already that the operator may take this next, or nothing.
+    /// Returns whether the slot says already that the operator may take this next, or nothing.
     pub(crate) fn has_next(&self, next: Option<(Side, u64)>) -> bool
         ensures { IsTrue result ↔ (with_next self.now next ≡ self.now) }
     {
@@ -73,7 +74,7 @@ impl Slot {
         }
     }
 
-    /// Whether the operator may take this next.
+    /// Returns whether the operator may take this next.
     fn takes(&self, side: Side, instant: u64) -> bool
         ensures { IsTrue result ↔ (with_next self.now (Some (side, instant)) ≡ self.now) }
     {
@@ -86,7 +87,7 @@ impl Slot {
         !self.is_idle
     }
 
-    /// Whether the operator may take nothing.
+    /// Returns whether the operator may take nothing.
     fn takes_nothing(&self) -> bool
         ensures { IsTrue result ↔ (with_next self.now None ≡ self.now) }
     {
@@ -99,8 +100,8 @@ impl Slot {
         self.is_idle
     }
 
-    /// Whether the two stand at one place: they differ at most in their sides. Most are told apart
-    /// by their operators.
+    /// Returns whether the two are at one place: they differ at most in their sides. Most differ in
+    /// their operators.
     pub(crate) fn is_same(&self, other: &Slot) -> bool
         ensures { IsTrue result ↔ (slot_cmp self.now other.now ≡ Equal) }
     {
@@ -119,7 +120,7 @@ impl Slot {
         self.has_slope_of(other)
     }
 
-    /// Whether it stands before the other.
+    /// Returns whether it is leased before the other.
     pub(crate) fn is_before(&self, other: &Slot) -> bool
         ensures { IsTrue result ↔ (slot_cmp self.now other.now ≡ Less) }
     {
@@ -132,14 +133,17 @@ impl Slot {
         self.is_steeper(other)
     }
 
-    /// Whether it stands behind the other.
-    pub(crate) fn is_behind(&self, other: &Slot) -> bool
-        ensures { IsTrue result ↔ (slot_cmp self.now other.now ≡ Greater) }
+    /// Compares the slots by their operators first: by their queries' numbers, then their own.
+    pub(crate) fn place_cmp(&self, other: &Slot) -> Ordering
+        ensures { result ≡ place_cmp self.now other.now }
     {
-        other.is_before(self)
+        let queries = self.query.cmp(&other.query);
+        let operators = queries.then(self.operator.cmp(&other.operator));
+        operators.then_with(|| self.cmp(other))
     }
 
-    /// Whether it stands before the other by their instants, then by their operators' numbers.
+    /// Returns whether it is leased before the other, by their instants, then by their operators'
+    /// numbers.
     fn is_earlier(&self, other: &Slot) -> bool
         ensures { IsTrue result ↔ (later_cmp self.now other.now ≡ Less) }
     {
@@ -152,7 +156,7 @@ impl Slot {
         other.operator > self.operator
     }
 
-    /// Whether the operator's slope is the other's. Most often their parts are the same.
+    /// Returns whether the operator's slope is the other's. Most often their parts are the same.
     fn has_slope_of(&self, other: &Slot) -> bool
         ensures { IsTrue result ↔ (fraction_cmp other.now.slope.0 self.now.slope.0 ≡ Equal) }
     {
@@ -164,14 +168,14 @@ impl Slot {
         self.slope == other.slope
     }
 
-    /// Whether the operator's slope is greater than the other's.
+    /// Returns whether the operator's slope is greater than the other's.
     pub fn is_steeper(&self, other: &Slot) -> bool
         ensures { result ≡ is_gt (fraction_cmp self.now.slope.0 other.now.slope.0) }
     {
         self.slope.0.cmp(&other.slope.0).is_gt()
     }
 
-    /// Whether there is something to take next, and it is of this slot's instant.
+    /// Returns whether there is something to take next, and it is of this slot's instant.
     pub fn goes_on(&self, next: Option<(Side, u64)>) -> bool
         ensures { result ≡ goes_on self.now next }
     {
@@ -181,7 +185,7 @@ impl Slot {
         }
     }
 
-    /// The slot, if the operator has something to take.
+    /// Returns the slot, if the operator has something to take.
     pub(crate) fn unless_idle(self) -> Option<Slot>
         ensures { result ≡ cond self.is_idle None (Some self) }
     {
@@ -191,7 +195,7 @@ impl Slot {
         Some(self)
     }
 
-    /// The instant of what the operator may take next, if it may take anything.
+    /// Returns the instant of what the operator may take next, if it may take anything.
     pub fn instant(self) -> Option<u64>
         ensures { result ≡ cond self.is_idle None (Some self.instant) }
     {
@@ -201,21 +205,21 @@ impl Slot {
         Some(self.instant)
     }
 
-    /// The side of what the operator may take next; the left one where it may take nothing.
+    /// Returns the side of what the operator may take next; the left one if it may take nothing.
     pub fn side(self) -> Side
         ensures { result ≡ self.side }
     {
         self.side
     }
 
-    /// The number of the query.
+    /// Returns the number of the query.
     pub fn query(self) -> u64
         ensures { result ≡ self.query }
     {
         self.query
     }
 
-    /// The number of the operator in its query.
+    /// Returns the number of the operator in its query.
     pub fn operator(self) -> usize
         ensures { result ≡ self.operator }
     {

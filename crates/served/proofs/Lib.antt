@@ -1,3 +1,3 @@
 mod Requests
-mod Progressing
+mod Crossing
 mod SendLemmas

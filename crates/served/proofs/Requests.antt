@@ -11,8 +11,9 @@ use Rattle.reference.specs.Commands.{Command}
 use Rattle.reference.specs.Replies.{Reply}
 use Rattle.reference.specs.declared.fault.Fault.{Fault}
 use Rattle.reference.specs.declared.fault.Fault.TheVariants.{BadLimit, OutOfMemory, TooManyLeases}
-use Rattle.reference.specs.declared.limits.TheConstants.{MAX_TURN}
+use Rattle.reference.specs.World.{IsTurnSize}
 use Rattle.wire.specs.Calls.{Call, declare, register, append, heartbeat, drain, take_rows, drop_query, forget, show_plan, call_of}
+use Rattle.wire.specs.Exchanges.{Leads}
 use Rattle.wire.specs.Printed.{Answer, done, refused, unread}
 use Rattle.wire.specs.Requests.{Reads}
 use Rattle.wire.specs.Script.{done_of}
@@ -22,7 +23,7 @@ use Rattle.wire.specs.declared.request.WireFault.TheVariants.{NotJson, BadReques
 use Rattle.wire.specs.declared.request.WireFault.TheVariants as in_line
 use Rattle.workers.specs.Lacks.{WasFull}
 use Rattle.workers.specs.declared.pool.TheConstants.{MAX_WORKERS}
-use Rattle.served.specs.Serving.{Carries, CarriesNamed, ClientDrains, Forgets, IsPool, Keeps, PoolDrains, Replies, Serves, WasAtRest, WasIdle, asks_forget, forgets, is_done, shown}
+use Rattle.served.specs.Serving.{Carries, CarriesNamed, Forgets, IsPool, Keeps, PoolDrains, Replies, Runs, Serves, WasAtRest, asks_forget, forgets, is_done, shown}
 
 -- a command whose acceptance is answered `done`
 pub carried : {A : Type 0} (told : A → Told) (reply : A → Reply) (seat seat' : PlainSeat) (command : Command) (r : Result A Fault) (answer : Answer)
@@ -69,12 +70,6 @@ full_of old new most r is h =
     let given = subst (λ (x : Result Leased Fault). Hands old most x new) is h in
     (old, new, record { legal = given.legal; refuses = given.leases })
 
-pub client_drained : {T : Type 0} (most : ℕ) (r : Result T Fault) (answer : Answer) → IfOk r (λ _. WasIdle most) → IfErr r (λ f. f ≡ TooManyLeases → WasFull most)
-    → IfErr r (λ f. (f ≡ TooManyLeases) ⊎ (f ≡ OutOfMemory)) → answer ≡ done_of r → ClientDrains most answer
-client_drained most (Ok x) answer idle full short is = subst (ClientDrains most) (sym is) idle
-client_drained most (Err f) answer idle full (inl turns) is = subst (ClientDrains most) (sym (is ∙ ap refused turns)) (full turns)
-client_drained most (Err f) answer idle full (inr memory) is = subst (ClientDrains most) (sym (is ∙ ap refused memory)) tt
-
 -- these are a pool's workers, or they are not
 is_pool : (workers : ℕ) → IsPool workers ⊎ (¬ IsPool workers)
 is_pool workers = elim (cases_lt 0 workers) [
@@ -87,7 +82,7 @@ is_pool workers = elim (cases_lt 0 workers) [
 
 -- what is refused just where workers or rows are out of range, and these rows are in range
 abbrev pub AreRefused : {T : Type 0} → ℕ → ℕ → Result T Fault → Type 0
-AreRefused workers most r = IsErrOf r BadLimit ↔ (¬ ((1 ≤ workers) × (workers ≤ MAX_WORKERS) × (1 ≤ most) × (most ≤ MAX_TURN)))
+AreRefused workers most r = IsErrOf r BadLimit ↔ (¬ ((1 ≤ workers) × (workers ≤ MAX_WORKERS) × IsTurnSize most))
 
 in_range : {T : Type 0} (workers most : ℕ) (r : Result T Fault) → AreRefused workers most r → (IsErrOf r BadLimit → ⊥) → IsPool workers
 in_range workers most r bad other = elim (is_pool workers) [
@@ -95,11 +90,11 @@ in_range workers most r bad other = elim (is_pool workers) [
   | inr none ↦ absurd (other (bad.1 (λ all. none (all.0, all.1))))
 ]
 
-pub pool_drained : {T : Type 0} (workers most : ℕ) (r : Result T Fault) (answer : Answer) → (1 ≤ most) × (most ≤ MAX_TURN) → IfOk r (λ _. WasAtRest most) → AreRefused workers most r
+pub pool_drained : {T : Type 0} (workers most : ℕ) (r : Result T Fault) (answer : Answer) → IsTurnSize most → IfOk r (λ _. WasAtRest most) → AreRefused workers most r
     → IfErr r (λ f. f ≡ TooManyLeases → WasFull most) → IfErr r (λ f. (f ≡ BadLimit) ⊎ (f ≡ TooManyLeases) ⊎ (f ≡ OutOfMemory)) → answer ≡ done_of r → PoolDrains workers most answer
 pool_drained workers most (Ok x) answer rows rest bad full short is = subst (PoolDrains workers most) (sym is) (in_range workers most (Ok x) bad (λ e. cc), rest)
 pool_drained workers most (Err f) answer rows rest bad full (inl limit) is =
-    subst (PoolDrains workers most) (sym (is ∙ ap refused limit)) (λ (pool : IsPool workers). bad.0 (ap Err limit) (pool.0, pool.1, rows.0, rows.1))
+    subst (PoolDrains workers most) (sym (is ∙ ap refused limit)) (λ (pool : IsPool workers). bad.0 (ap Err limit) (pool.0, pool.1, rows))
 pool_drained workers most (Err f) answer rows rest bad full (inr (inl turns)) is =
     subst (PoolDrains workers most) (sym (is ∙ ap refused turns)) (in_range workers most (Err f) bad (λ e. cc), full turns)
 pool_drained workers most (Err f) answer rows rest bad full (inr (inr memory)) is =
@@ -137,35 +132,20 @@ keeps_served R seat forget answer seat' s = keeps_same seat seat' s.1
 keeps_served R seat (drop_query query) answer seat' s = keeps_named FindsQuery query _ _ seat answer seat' s
 keeps_served R seat (show_plan query) answer seat' s = keeps_same seat seat' s.1
 
-pub keeps_replied : (R : Answer → Type 0) (seat : PlainSeat) (request : Result Call WireFault) (answer : Answer) (seat' : PlainSeat) → Replies R seat request answer seat' → Keeps seat seat'
+keeps_replied : (R : Answer → Type 0) (seat : PlainSeat) (request : Result Call WireFault) (answer : Answer) (seat' : PlainSeat) → Replies R seat request answer seat' → Keeps seat seat'
 keeps_replied R seat (Ok call) answer seat' (inl s) = keeps_served R seat call answer seat' s
 keeps_replied R seat (Err fault) answer seat' (inl s) = keeps_same seat seat' s.1
 keeps_replied R seat request answer seat' (inr l) = keeps_same seat seat' l.2
 
-pub keeps_both : (a b c : PlainSeat) → Keeps a b → Keeps b c → Keeps a c
+keeps_both : (a b c : PlainSeat) → Keeps a b → Keeps b c → Keeps a c
 keeps_both a b c k l = (
   k.0 ++ l.0,
   l.1 ∙ ap (λ (s : PlainSeat). record s { receipts = s.receipts ++ l.0 }) k.1 ∙ ap (λ m. record a { receipts = m }) (append_assoc a.receipts k.0 l.0),
 )
 
-pub keeps_none : (seat : PlainSeat) → Keeps seat seat
-keeps_none seat = keeps_itself seat
-
 -- a request of this kind was served as its call was
 pub serves_as : (R : Answer → Type 0) (seat seat' : PlainSeat) (request kind : Request) (answer : Answer) → request ≡ kind → Serves R seat (call_of kind) answer seat' → Serves R seat (call_of request) answer seat'
 serves_as R seat seat' request kind answer is s = subst (λ r. Serves R seat (call_of r) answer seat') (sym is) s
-
--- each thing that is read is what was asked
-asked_of : (read : Result Request WireFault) → (defined : Result Call WireFault) × Reads defined read
-asked_of (Ok request) = (Ok (call_of request), refl)
-asked_of (Err NotJson) = (Err NotJson, refl)
-asked_of (Err BadRequest) = (Err BadRequest, refl)
-asked_of (Err LineTooLong) = (Err LineTooLong, refl)
-asked_of (Err in_line.OutOfMemory) = (Err NotJson, λ e. cc)
-
-pub keeps_read : (R : Answer → Type 0) (seat : PlainSeat) (read : Result Request WireFault) (answer : Answer) (seat' : PlainSeat)
-    → ((defined : Result Call WireFault) → Reads defined read → Replies R seat defined answer seat') → Keeps seat seat'
-keeps_read R seat read answer seat' replied = let a = asked_of read in keeps_replied R seat a.0 answer seat' (replied a.0 a.1)
 
 -- ---- whether the hub forgot
 
@@ -182,3 +162,14 @@ forgets_none fault defined = sym (and_none (asks_forget defined))
     and_none : (b : Bool) → (b && false) ≡ false
     and_none true = refl
     and_none false = refl
+
+-- ---- all requests
+
+keeps_runs : (R : Answer → Type 0) (first last : PlainSeat) (requests : List (Result Call WireFault)) (written : List ℕ) (forgot : Bool) → Runs R first requests written forgot last → Keeps first last
+keeps_runs R first last [] written forgot runs = keeps_same first last runs.2
+keeps_runs R first last (request ∷ more) written forgot runs =
+    keeps_both first runs.1 last (keeps_replied R first request runs.0 runs.1 runs.6) (keeps_runs R runs.1 last more runs.2 runs.3 runs.7)
+
+-- requests that lead from a seat to another keep what it held
+pub keeps_led : (R : Answer → Type 0) (first last : PlainSeat) → Leads (Replies R) forgets first last → Keeps first last
+keeps_led R first last led = keeps_runs R first last led.0 led.1 led.2 led.3

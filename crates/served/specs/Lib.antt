@@ -1,3 +1,4 @@
 pub mod Serving
+pub mod Crossing
 pub mod Errors
 pub mod Doors

@@ -1,6 +1,6 @@
 -- What a seat of a hub answers the requests of a script, while other seats call as well.
-use Rattle.std.specs.Prelude.{◌≡◌, ◌≢◌, ◌≤◌, ℕ, ℤ, pos, Bool, true, false, ◌&&◌, ◌||◌, List, []}
-use Rattle.std.specs.Prelude.{◌∷◌, ◌++◌, Option, Some, None, Result, Ok, Err, ◌⊎◌, ⊤}
+use Rattle.std.specs.Prelude.{◌≡◌, ◌≢◌, ◌≤◌, ℕ, ℤ, pos, Bool, true, false, ◌&&◌, List, ◌++◌}
+use Rattle.std.specs.Prelude.{Option, Some, None, Result, Ok, Err, ◌⊎◌, ⊤}
 use Rattle.envelope.specs.Fraction.{Fraction}
 use Rattle.histories.specs.Histories.{Told}
 use Rattle.hub.specs.Seats.{PlainSeat}
@@ -17,15 +17,14 @@ use Rattle.reference.specs.declared.fault.Fault.TheVariants.{BadLimit, OutOfMemo
 use Rattle.reference.specs.declared.fault.Fault.TheVariants.{UnknownQuery, UnknownStream}
 use Rattle.wire.specs.Calls.{Call, declare, register, append, heartbeat, drain, take_rows}
 use Rattle.wire.specs.Calls.{drop_query, forget, show_plan}
-use Rattle.wire.specs.Printed.{Answer, done, rows, operators, refused, unread, line_of}
+use Rattle.wire.specs.Exchanges as exchanges
+use Rattle.wire.specs.Printed.{Answer, done, rows, operators, refused, unread}
 use Rattle.wire.specs.declared.request.Request.{Request}
 use Rattle.wire.specs.declared.request.Request.TheVariants as request
 use Rattle.wire.specs.declared.request.WireFault.{WireFault}
 use Rattle.wire.specs.declared.request.WireFault.TheVariants as in_line
 use Rattle.workers.specs.Lacks.{WasFull}
 use Rattle.workers.specs.declared.pool.TheConstants.{MAX_WORKERS}
-use Rattle.served.specs.declared.answer.Drains.{Drains}
-use Rattle.served.specs.declared.answer.Drains.TheVariants.{Pool, Client}
 
 -- ---- one request
 
@@ -119,11 +118,6 @@ ClientDrains most (refused OutOfMemory) = ⊤
 ClientDrains most (refused TooManyLeases) = WasFull most
 ClientDrains most answer = ⊥
 
--- by whoever runs the turns
-abbrev pub DrainsBy : Drains → ℕ → Answer → Type 0
-DrainsBy (Pool workers) most = PoolDrains workers most
-DrainsBy Client most = ClientDrains most
-
 -- ---- requests
 
 -- THE CALL of a request was answered so, and left this
@@ -184,21 +178,13 @@ forgets request answer = asks_forget request && is_done answer
 -- `forgot` is true just where one of them was to forget, and was answered `done`
 abbrev pub Runs : (Answer → Type 0) → PlainSeat → List (Result Call WireFault) → List ℕ → Bool
     → PlainSeat → Type 0
-Runs drains seat [] written forgot seat' = (written ≡ []) × (forgot ≡ false) × (seat' ≡ seat)
-Runs drains seat (request ∷ more) written forgot seat' =
-    (answer : Answer) × (mid : PlainSeat) × (rest : List ℕ) × (later : Bool)
-    × (written ≡ line_of answer ++ rest)
-    × (forgot ≡ (forgets request answer || later)) × Replies drains seat request answer mid
-    × Runs drains mid more rest later seat'
+Runs drains = exchanges.Runs (Replies drains) forgets
 
 -- the first of these requests were carried out, and
 -- stand: the written text begins what they are answered
 abbrev pub Stands : (Answer → Type 0) → PlainSeat → List (Result Call WireFault) → List ℕ
     → PlainSeat → Type 0
-Stands drains seat requests written seat' =
-    (carried : List (Result Call WireFault)) × (rest : List (Result Call WireFault))
-    × (more : List ℕ) × (forgot : Bool)
-    × (requests ≡ carried ++ rest) × Runs drains seat carried (written ++ more) forgot seat'
+Stands drains = exchanges.Stands (Replies drains) forgets
 
 -- only more receipts are in the seat
 abbrev pub Keeps : PlainSeat → PlainSeat → Type 0

@@ -1,8 +1,10 @@
-//! A hub served: the lines of a source answered by one seat, and a server of many connections.
+//! Serves a hub: one seat answers the lines of a source, and a server has many connections.
 #![tactic(auto)]
 
 mod answer;
+mod client;
 mod door;
+mod drains;
 mod lines;
 mod server;
 

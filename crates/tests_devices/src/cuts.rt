@@ -1,4 +1,4 @@
-//! Runs over a script that is cut after each byte.
+//! Runs `cqlrun` over a script that is cut after each byte.
 
 ghost use Rattle.std.specs.Prelude.{◌≤◌, length};
 
@@ -10,10 +10,10 @@ use std::sync::Wait;
 use std::thread::Threads;
 use wire::{MemorySink, MemorySource};
 
-/// The reply to a line that lacks more than its line feed.
+/// Is the reply to a line that lacks more than its line feed.
 const NOT_JSON: &[u8] = b"{\"error\":\"N1 NotJson\"}\n";
 
-/// Where a script is cut.
+/// Says where a script is cut.
 #[derive(Clone, Copy)]
 enum Cut {
     BetweenLines,
@@ -32,7 +32,7 @@ impl Cut {
         }
     }
 
-    /// Whether these are the replies to the front of the script before such a cut.
+    /// Returns whether these are the replies to the front of the script before such a cut.
     fn answers(self, stored: &Stored, front: &[u8], written: &[u8]) -> bool {
         let lines = lines_in(front);
         match self {
@@ -43,14 +43,14 @@ impl Cut {
     }
 }
 
-/// What runs came to, of which each has one byte more of the script than the one before.
+/// Counts what runs came to. Each run has one byte more of the script than the one before.
 #[derive(Drop)]
 pub(crate) struct Cuts {
     between_lines: u64,
     before_line_feed: u64,
     within_line: u64,
     differ: u64,
-    /// How many bytes all runs together wrote.
+    /// Counts the bytes that all runs together wrote.
     bytes: u64,
 }
 

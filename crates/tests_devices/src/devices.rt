@@ -1,4 +1,4 @@
-//! Devices in memory that give or take a few bytes a call, up to a call that fails, and runs of
+//! Makes devices in memory that give or take a few bytes a call, up to a call that fails. Runs
 //! `cqlrun` over devices.
 
 use programs::run;
@@ -7,17 +7,17 @@ use std::sync::Wait;
 use std::thread::Threads;
 use wire::{DeviceFailed, MemorySink, MemorySource, Sink, Source};
 
-/// The most bytes that a call gives or takes.
+/// Limits the bytes that a call gives or takes.
 const WIDTH: usize = 7;
 
-/// A script as a source, whose reads fail once so many have gone well.
+/// Is a script as a source, whose reads fail once so many have gone well.
 #[derive(Drop)]
 pub(crate) struct FailingSource<'a> {
     script: &'a [u8],
     source: MemorySource<'a>,
-    /// How many reads more go well.
+    /// Counts the reads that still go well.
     reads: usize,
-    /// How many reads have failed.
+    /// Counts the reads that have failed.
     failures: u64,
 }
 
@@ -31,7 +31,7 @@ impl<'a> FailingSource<'a> {
         }
     }
 
-    /// The front of the script that it has given.
+    /// Returns the front of the script that it has given.
     pub(crate) fn given(&self) -> &'a [u8] {
         self.script
             .strip_suffix(self.source.bytes)
@@ -59,11 +59,11 @@ impl Source for FailingSource<'_> {
     }
 }
 
-/// A sink that keeps what it takes, and whose writes fail once so many have gone well.
+/// Is a sink that keeps what it takes, and whose writes fail once so many have gone well.
 #[derive(Drop)]
 pub(crate) struct FailingSink {
     sink: MemorySink,
-    /// How many writes more go well.
+    /// Counts the writes that still go well.
     writes: usize,
 }
 
@@ -75,7 +75,7 @@ impl FailingSink {
         }
     }
 
-    /// What it has taken.
+    /// Returns what it has taken.
     pub(crate) fn taken(&self) -> &[u8] {
         self.sink.bytes.as_slice()
     }
@@ -99,11 +99,11 @@ impl Sink for FailingSink {
     }
 }
 
-/// How a run ended.
+/// Holds how a run ended.
 #[derive(Drop)]
 pub(crate) struct Ending {
     status: u8,
-    /// What standard error was told.
+    /// Holds what was written to standard error.
     errors: Vec<u8>,
 }
 
@@ -124,12 +124,12 @@ impl Ending {
         }
     }
 
-    /// Whether the run ended well, and nothing was said of errors.
+    /// Returns whether the run ended well, and nothing was said of errors.
     pub(crate) fn is_well(&self) -> bool {
         self.status == 0 && self.errors.is_empty()
     }
 
-    /// Whether the run ended for a device, and just this was said of it.
+    /// Returns whether the run ended for a device, and exactly this was said of it.
     pub(crate) fn is_failure(&self, line: &str) -> bool {
         self.status == 1 && self.errors.as_slice() == line.as_bytes()
     }

@@ -1,4 +1,4 @@
-//! Runs whose devices fail at each call in turn.
+//! Runs `cqlrun` over devices that fail at each call in turn.
 
 use crate::devices::{Ending, FailingSink, FailingSource};
 use crate::stored::{Stored, lines_in};
@@ -8,26 +8,26 @@ use std::sync::Wait;
 use std::thread::Threads;
 use wire::{MemorySink, MemorySource};
 
-/// What a run came to.
+/// Says what a run came to.
 #[derive(Clone, Copy, PartialEq, Eq)]
 enum Outcome {
-    /// A call failed, and what was written is as it has to be then.
+    /// Says that a call failed, and what was written is as it has to be then.
     Stopped,
-    /// No call failed, and all replies were written.
+    /// Says that no call failed, and all replies were written.
     All,
-    /// Anything else.
+    /// Says that it came to anything else.
     Differs,
 }
 
-/// What runs came to, of which each has one call more that goes well than the one before.
+/// Counts what runs came to. In each run one call more goes well than in the one before.
 #[derive(Drop)]
 pub(crate) struct Failures {
-    /// What a run does that stops.
+    /// Says what a run does that stops.
     deed: &'static str,
     stopped: u64,
     all: u64,
     differ: u64,
-    /// How many bytes all runs together wrote.
+    /// Counts the bytes that all runs together wrote.
     bytes: u64,
 }
 
@@ -61,8 +61,8 @@ impl Display for Failures {
     }
 }
 
-/// A run whose source fails after so many reads, and how many bytes it wrote. It has to answer just
-/// the lines that were given.
+/// Runs over a source that fails after so many reads. Returns what that came to, and how many bytes
+/// it wrote. It has to answer exactly the lines that were given.
 fn fail_read<R: Threads + Wait + Sync>(
     rt: &R,
     alloc: Global,
@@ -103,8 +103,8 @@ pub(crate) fn fail_reads_in_turn<R: Threads + Wait + Sync>(
     failures
 }
 
-/// A run whose sink fails after so many writes, and how many bytes it wrote. These have to be a
-/// beginning of all replies.
+/// Runs over a sink that fails after so many writes. Returns what that came to, and how many bytes
+/// it wrote. These have to be a prefix of all replies.
 fn fail_write<R: Threads + Wait + Sync>(
     rt: &R,
     alloc: Global,

@@ -13,7 +13,8 @@ use crate::stored::Stored;
 use std::io;
 use std::process::ExitCode;
 
-/// The words of `cqlrun` for the plain engine, and for the engine by turns of at most seven rows.
+/// Holds the words of `cqlrun` for the plain engine, and for the engine by turns of at most seven
+/// rows.
 const COMMAND_LINES: [[&str; 2]; 2] = [["cqlrun", "--plain"], ["cqlrun", "--turn=7"]];
 
 fn main(rt: HostRuntime) -> io::Result<ExitCode> {

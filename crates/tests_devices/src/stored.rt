@@ -1,6 +1,6 @@
-//! A script with its replies, and lines.
+//! Reads a script with its replies, and counts lines.
 
-/// A script, and the replies that are right.
+/// Holds a script, and the replies that are right.
 #[derive(Clone, Copy)]
 pub(crate) struct Stored<'a> {
     pub(crate) script: &'a [u8],
@@ -8,7 +8,8 @@ pub(crate) struct Stored<'a> {
 }
 
 impl<'a> Stored<'a> {
-    /// The script and the replies of a text. A record separator parts them, which no JSON text has.
+    /// Reads the script and the replies of a text. A record separator parts them, which no JSON
+    /// text has.
     pub(crate) fn of(text: &'a str) -> Option<Stored<'a>> {
         let (script, replies) = text.split_once("\u{1e}\n")?;
         Some(Stored {
@@ -17,18 +18,18 @@ impl<'a> Stored<'a> {
         })
     }
 
-    /// The replies to the first lines of the script, a line each.
+    /// Returns the replies to the first lines of the script, a line each.
     pub(crate) fn replies_to(&self, lines: usize) -> &'a [u8] {
         first_lines(self.replies, lines)
     }
 }
 
-/// How many lines of a text end in a line feed.
+/// Counts the lines of a text that end in a line feed.
 pub(crate) fn lines_in(text: &[u8]) -> usize {
     text.iter().filter(|byte| **byte == b'\n').count()
 }
 
-/// The first lines of a text, with their line feeds, or all of it where it has no more.
+/// Returns the first lines of a text, with their line feeds, or all of it if it has no more.
 fn first_lines(text: &[u8], count: usize) -> &[u8] {
     let mut left = count;
     for (at, byte) in text.iter().enumerate() {

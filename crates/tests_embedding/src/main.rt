@@ -1,4 +1,4 @@
-//! A program of its own that uses the engine: from a declaration to the answers, with its turns run
+//! Uses the engine in a program of its own, from a declaration to the answers. Its turns are run
 //! one by one, as workers would run them.
 #![tactic(auto)]
 
@@ -17,11 +17,11 @@ const VOLUMES: &str =
 
 /// Runs turns until no operator has anything to take: then all answers wait to be taken.
 ///
-/// A turn that was refused memory comes back as it went out. It is abandoned, so that none stays
+/// A turn that ran out of memory comes back as it went out. It is abandoned, so that none stays
 /// out, and a later call leases it again.
 ///
 /// # Errors
-/// `TooManyLeases` where all numbers of turns were given; `OutOfMemory`.
+/// `TooManyLeases` if all numbers of turns were given; `OutOfMemory` when out of memory.
 fn run_turns(alloc: Global, engine: &mut Engine) -> Result<(), Fault>
     ensures all { OnOk result (HasAllWaiting (engine_in engine.new)) }
 {
@@ -40,7 +40,7 @@ fn run_turns(alloc: Global, engine: &mut Engine) -> Result<(), Fault>
     Err(Fault::TooManyLeases)
 }
 
-/// The columns of a trade.
+/// Makes the columns of a trade.
 fn columns(alloc: Global) -> Result<Vec<String>, AllocError> {
     let mut columns = Vec::new(alloc);
     for name in ["symbol", "price", "amount"] {
@@ -49,7 +49,7 @@ fn columns(alloc: Global) -> Result<Vec<String>, AllocError> {
     Ok(columns)
 }
 
-/// The volumes of the trades up to the instant 2, symbol by symbol.
+/// Returns the volumes of the trades up to the instant 2, symbol by symbol.
 fn volumes(alloc: Global) -> Result<Vec<(i64, Row)>, Fault> {
     let mut engine = Engine::new(alloc);
     let columns = columns(alloc)?;

@@ -1,4 +1,4 @@
-//! Answers the scripts of standard input over every engine, as `cqlrun` does each: the gate runs it
+//! Answers the scripts of standard input over every engine, as `cqlrun` does each. The gate runs it
 //! on those of examples/, and compares the replies.
 #![tactic(auto)]
 
@@ -12,8 +12,8 @@ use std::process::ExitCode;
 use std::sync::Wait;
 use std::thread::Threads;
 
-/// The words of `cqlrun` for the plain engine, for the engine by turns of at most so many rows, and
-/// for a hub whose drains are run by four threads.
+/// Holds the words of `cqlrun` for the plain engine, and for the engine by turns of at most so many
+/// rows. The last are for a hub whose drains are run by four threads.
 const COMMAND_LINES: [&[&str]; 5] = [
     &["cqlrun", "--plain"],
     &["cqlrun", "--turn", "1"],
@@ -22,7 +22,7 @@ const COMMAND_LINES: [&[&str]; 5] = [
     &["cqlrun", "--workers", "4"],
 ];
 
-/// The scripts of a text. A record separator parts them, which no JSON text has.
+/// Returns the scripts of a text. A record separator parts them, which no JSON text has.
 fn scripts_of<'a>(alloc: Global, text: &'a str) -> Result<Vec<&'a str>, AllocError>
     ensures { IfOk result (λ scripts. map (λ script. script.now) scripts.items
         ≡ scripts_of text.now) }
@@ -30,8 +30,8 @@ fn scripts_of<'a>(alloc: Global, text: &'a str) -> Result<Vec<&'a str>, AllocErr
     text.split('\u{1e}').collect(alloc)
 }
 
-/// Answers each script over an engine of its own, as the words say, and gives the first status that
-/// is not 0.
+/// Answers each script over an engine of its own, as the words say, and returns the first status
+/// that is not 0.
 fn answer_scripts<R: Threads + Wait + Sync, W: Write, X: Write>(
     rt: &R,
     alloc: Global,
@@ -50,7 +50,7 @@ fn answer_scripts<R: Threads + Wait + Sync, W: Write, X: Write>(
     0
 }
 
-/// Answers the scripts over every engine, and gives the first status that is not 0.
+/// Answers the scripts over every engine, and returns the first status that is not 0.
 fn answer_over_every_engine<R: Threads + Wait + Sync, W: Write, X: Write>(
     rt: &R,
     alloc: Global,

@@ -1,4 +1,4 @@
-//! A hub answers as an engine of one thread does.
+//! Tests that a hub answers as an engine of one thread does.
 
 use crate::fixture::{declare, opened, ready, register};
 use crate::scripts::is_answered_by;
@@ -14,7 +14,7 @@ use std::thread::Threads;
 use turn::{Done, Parts, same_item};
 use wire::{MemorySink, MemorySource};
 
-// Declarations, takes and refusals, each script with the replies that the rules give.
+// Holds declarations, takes and refusals: each script with the replies that the rules give.
 const SCRIPTS: [(&str, &str); 4] = [
     (
         r#"{"op":"stream","name":"S","columns":["a"],"from":0}
@@ -127,14 +127,14 @@ fn a_hub_answers_scripts_as_an_engine_does(rt: HostRuntime) -> Result<(), Fail> 
     Ok(())
 }
 
-// A stream with three rows and four closed instants.
+// Makes a stream with three rows and four closed instants.
 const READY: &str = r#"{"op":"stream","name":"S","columns":["a"],"from":0}
 {"op":"query","name":"q","text":"Select Istream(*) From S [Now]"}
 {"op":"append","stream":"S","rows":[[3,7],[1,5],[3,6]]}
 {"op":"heartbeat","stream":"S","at":3}
 "#;
 
-// The same, drained.
+// Makes the same, drained.
 const DRAINED: &str = r#"{"op":"stream","name":"S","columns":["a"],"from":0}
 {"op":"query","name":"q","text":"Select Istream(*) From S [Now]"}
 {"op":"append","stream":"S","rows":[[3,7],[1,5],[3,6]]}
@@ -142,7 +142,7 @@ const DRAINED: &str = r#"{"op":"stream","name":"S","columns":["a"],"from":0}
 {"op":"drain"}
 "#;
 
-// A join of which one side is five instants ahead.
+// Makes a join with one side five instants ahead.
 const AHEAD: &str = r#"{"op":"stream","name":"A","columns":["k"],"from":0}
 {"op":"stream","name":"B","columns":["k"],"from":0}
 {"op":"query","name":"q","text":"Select Istream(A.k) From A [Now], B [Now] Where A.k = B.k"}
@@ -154,7 +154,7 @@ const AHEAD: &str = r#"{"op":"stream","name":"A","columns":["k"],"from":0}
 {"op":"take","query":"q","limit":100}
 "#;
 
-// Whether so much waits in each queue of a hub's first query behind the script.
+// Returns whether so much waits in each queue of a hub's first query after the script.
 fn are_pending<R: Threads + Wait + Sync>(
     rt: &R,
     alloc: Global,
@@ -177,7 +177,7 @@ fn pending_counts_rows_and_ticks_in_each_queue(rt: HostRuntime) -> Result<(), Fa
     Ok(())
 }
 
-// The next turn of a hub, run.
+// Leases the next turn of a hub, and runs it.
 fn next_done<R: Wait>(rt: &R, alloc: Global, hub: &Hub) -> Result<Option<Done>, Fault> {
     match hub.lease(rt, 256)? {
         Leased::Idle => Ok(None),
@@ -188,7 +188,7 @@ fn next_done<R: Wait>(rt: &R, alloc: Global, hub: &Hub) -> Result<Option<Done>, 
     }
 }
 
-// Runs the next turn, and gives its operator.
+// Runs the next turn, and returns its operator.
 fn step<R: Wait>(rt: &R, alloc: Global, hub: &Hub) -> Result<Option<usize>, Fault> {
     let Some(done) = next_done(rt, alloc, hub)? else {
         return Ok(None);
@@ -198,7 +198,7 @@ fn step<R: Wait>(rt: &R, alloc: Global, hub: &Hub) -> Result<Option<usize>, Faul
     Ok(Some(operator))
 }
 
-// A hub with a query of this chart, and two ticks.
+// Makes a hub with a query of this chart, and two ticks.
 fn ticked<R: Wait>(rt: &R, alloc: Global, chart: Option<Chart>) -> Result<Hub, Fault> {
     let (hub, mut seat) = opened(alloc)?;
     declare(rt, alloc, &hub, &mut seat)?;
@@ -207,7 +207,7 @@ fn ticked<R: Wait>(rt: &R, alloc: Global, chart: Option<Chart>) -> Result<Hub, F
     Ok(hub)
 }
 
-// Whether the hub leases the turns of these operators, one after the other, and then none.
+// Returns whether the hub leases the turns of these operators, one after the other, and then none.
 fn are_leased<R: Wait>(
     rt: &R,
     alloc: Global,
@@ -222,7 +222,7 @@ fn are_leased<R: Wait>(
     Ok(step(rt, alloc, hub)?.is_none())
 }
 
-// A chart by which the first operator is as steep as the second.
+// Makes a chart by which the first operator is as steep as the second.
 fn steep_chart(alloc: Global) -> Result<Chart, AllocError> {
     let operators = Vec::from_slice(alloc, &[(1, 900_000), (1, 100_000), (1, 0)])?;
     Ok(Chart { operators })
@@ -243,14 +243,14 @@ fn without_a_chart_a_hub_leases_as_an_engine_does(rt: HostRuntime) -> Result<(),
     Ok(())
 }
 
-// The first turn of a hub whose query has one row of this value.
+// Runs the first turn of a hub whose query has one row of this value.
 fn first_done<R: Wait>(rt: &R, alloc: Global, value: i64) -> Result<Done, Fault> {
     let (hub, _) = ready(rt, alloc, value)?;
     next_done(rt, alloc, &hub)?.ok_or(Fault::UnknownLease)
 }
 
-// Whether the hub refuses a turn with another row, takes its own, and refuses one that is as its
-// own was.
+// Returns whether the hub refuses a turn with another row, takes its own, and refuses one that is
+// as its own was.
 fn takes_its_own<R: Wait>(rt: &R, hub: &Hub, other: Done, own: Done, same: Done) -> bool {
     hub.finish(rt, other) == Err(Fault::Stranger)
         && hub.finish(rt, own) == Ok(())
@@ -272,7 +272,7 @@ fn a_hub_takes_in_its_own_turns_alone_and_each_once(rt: HostRuntime) -> Result<(
     Ok(())
 }
 
-// Whether two turns have the numbers 1 and 2, the same operator and the same item.
+// Returns whether two turns have the numbers 1 and 2, the same operator and the same item.
 fn are_of_one_item(first: &Parts, next: &Parts) -> bool {
     first.lease == 1
         && next.lease == 2
@@ -280,8 +280,8 @@ fn are_of_one_item(first: &Parts, next: &Parts) -> bool {
         && same_item(first.item.item(), next.item.item())
 }
 
-// Whether the turn behind the first one, which is abandoned, goes out again under the next number,
-// and is not taken in.
+// Finishes the first turn and abandons the second. Returns whether that goes out again under the
+// next number, and is not taken in.
 fn is_out_again<R: Wait>(rt: &R, alloc: Global, hub: &Hub) -> Result<bool, Fault> {
     let taken = next_done(rt, alloc, hub)?.ok_or(Fault::UnknownLease)?;
     hub.finish(rt, taken)?;
@@ -299,7 +299,7 @@ fn an_abandoned_turn_goes_out_again_with_its_item(rt: HostRuntime) -> Result<(),
     Ok(())
 }
 
-// Whether the looks at a hub are those of an engine with a row and a tick.
+// Returns whether the looks at a hub are those of an engine with a row and a tick.
 fn are_looks_right<R: Wait>(rt: &R, hub: &Hub) -> Result<bool, Fault> {
     let pending = hub.pending(rt, 0)?;
     let slopes = hub.slopes(rt, 0)?;

@@ -1,4 +1,4 @@
-//! A stream S(a), and queries over it.
+//! Makes hubs with a stream S(a), and queries over it.
 
 use hub::{Hub, Receipt, Seat};
 use plan::Chart;
@@ -6,10 +6,10 @@ use reference::{Fault, NewRows};
 use std::alloc::{AllocError, Global};
 use std::sync::Wait;
 
-/// What each query here asks.
+/// Is the text of each query here.
 pub(crate) const NOW: &str = "Select Istream(*) From S [Now]";
 
-/// The names of columns.
+/// Makes the names of columns.
 pub(crate) fn columns(alloc: Global, names: &[&str]) -> Result<Vec<String>, AllocError> {
     let mut columns = Vec::new(alloc);
     for name in names {
@@ -18,12 +18,12 @@ pub(crate) fn columns(alloc: Global, names: &[&str]) -> Result<Vec<String>, Allo
     Ok(columns)
 }
 
-/// A hub with one seat, and room for 100 entries.
+/// Opens a hub with one seat, and room for 100 entries.
 pub(crate) fn opened(alloc: Global) -> Result<(Hub, Seat), Fault> {
     opened_for(alloc, 100)
 }
 
-/// A hub with one seat, and room for so many entries.
+/// Opens a hub with one seat, and room for this many entries.
 pub(crate) fn opened_for(alloc: Global, entries: u64) -> Result<(Hub, Seat), Fault> {
     let (hub, mut seats) = Hub::open(alloc, 1, entries)?;
     match seats.pop() {
@@ -32,7 +32,8 @@ pub(crate) fn opened_for(alloc: Global, entries: u64) -> Result<(Hub, Seat), Fau
     }
 }
 
-/// How many entries the history of a hub with this one seat has. None where it does not close.
+/// Returns how many entries the history of a hub with this one seat has, or `None` if it does not
+/// close.
 pub(crate) fn entries_of(alloc: Global, hub: Hub, seat: Seat) -> Result<Option<usize>, Fault> {
     let mut seats = Vec::new(alloc);
     seats.reserve(1)?;
@@ -43,7 +44,7 @@ pub(crate) fn entries_of(alloc: Global, hub: Hub, seat: Seat) -> Result<Option<u
     }
 }
 
-/// Rows of one value each, by their instants.
+/// Makes rows of one value each, by their instants.
 pub(crate) fn rows(alloc: Global, rows: &[(i64, i64)]) -> Result<NewRows, AllocError> {
     let mut made = NewRows::new(alloc);
     for (instant, value) in rows {
@@ -78,7 +79,7 @@ pub(crate) fn register<R: Wait>(
     hub.query(rt, seat, name, text, chart)
 }
 
-/// A hub whose query `q` has one row of this value, at the instant 0, which is still open.
+/// Makes a hub whose query `q` has one row of this value, at the instant 0, which is still open.
 pub(crate) fn filled<R: Wait>(rt: &R, alloc: Global, value: i64) -> Result<(Hub, Seat), Fault> {
     let (hub, mut seat) = opened(alloc)?;
     declare(rt, alloc, &hub, &mut seat)?;
@@ -87,7 +88,7 @@ pub(crate) fn filled<R: Wait>(rt: &R, alloc: Global, value: i64) -> Result<(Hub,
     Ok((hub, seat))
 }
 
-/// The same, with the instant closed: two items wait for the window.
+/// Makes the same, with the instant closed: two items wait for the window.
 pub(crate) fn ready<R: Wait>(rt: &R, alloc: Global, value: i64) -> Result<(Hub, Seat), Fault> {
     let (hub, mut seat) = filled(rt, alloc, value)?;
     hub.heartbeat(rt, &mut seat, 0, 0)?;

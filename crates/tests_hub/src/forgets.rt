@@ -1,4 +1,4 @@
-//! A hub that forgets: its history begins with an opening, and numbers go on.
+//! Tests a hub that forgets: its history starts with an opening, and numbers go on.
 
 use crate::fixture::{declare, opened_for, ready, register, rows};
 use hub::{Hub, Seat};
@@ -11,11 +11,11 @@ use std::test::Fail;
 use std::thread::Threads;
 use wire::{MemorySink, MemorySource};
 
-/// More turns than a row needs.
+/// Limits the turns of a row: it needs fewer.
 const TURNS: u64 = 20;
 
-// Closes a hub with this seat: how many entries its opening stands for, and how many follow. None
-// where it does not close.
+// Closes a hub with this seat. Returns how many entries its opening replaces and how many follow,
+// or `None` if it does not close.
 fn closed_with(alloc: Global, hub: Hub, seat: Seat) -> Result<Option<(u64, usize)>, Fault> {
     let mut seats = Vec::new(alloc);
     seats.reserve(1)?;
@@ -40,7 +40,7 @@ fn call_thrice<R: Wait>(
     Ok(())
 }
 
-// A hub of three entries that is full, and what its fourth call is refused for.
+// Makes a hub of three entries that is full. Returns also what its fourth call is refused for.
 fn filled_up<R: Wait>(rt: &R, alloc: Global) -> Result<(Hub, Seat, Option<Fault>), Fault> {
     let (hub, mut seat) = opened_for(alloc, 3)?;
     call_thrice(rt, alloc, &hub, &mut seat, "q")?;
@@ -48,7 +48,7 @@ fn filled_up<R: Wait>(rt: &R, alloc: Global) -> Result<(Hub, Seat, Option<Fault>
     Ok((hub, seat, refused))
 }
 
-// Whether a full history has room once the hub forgot, and the next entry has the number 3.
+// Returns whether a full history has room once the hub forgot, and the next entry has the number 3.
 fn has_room_again<R: Wait>(rt: &R, alloc: Global) -> Result<bool, Fault> {
     let (hub, mut seat, refused) = filled_up(rt, alloc)?;
     hub.forget(rt)?;
@@ -73,8 +73,8 @@ const FORGOTTEN: &str = r#"{"error":"E19 HistoryFull"}
 {"ok":true}
 "#;
 
-// Whether a line to forget makes room in a full history, and it is told that the hub forgot: by a
-// pool of so many workers or by the client's own thread.
+// Returns whether a line to forget makes room in a full history, and the call says that the hub
+// forgot. A pool of this many workers answers the line, or the client's own thread.
 fn makes_room<R: Threads + Wait + Sync>(
     rt: &R,
     alloc: Global,
@@ -111,7 +111,8 @@ fn a_line_that_asks_to_forget_makes_room(rt: HostRuntime) -> Result<(), Fail> {
     Ok(())
 }
 
-// Whether a hub that forgets twice in a row closes, and its opening stands for all three entries.
+// Returns whether a hub that forgets twice in a row closes, and its opening replaces all three
+// entries.
 fn forgets_twice<R: Wait>(rt: &R, alloc: Global) -> Result<bool, Fault> {
     let (hub, seat, _) = filled_up(rt, alloc)?;
     hub.forget(rt)?;
@@ -138,7 +139,8 @@ fn run_all<R: Wait>(rt: &R, alloc: Global, hub: &Hub) -> Result<(), Fault> {
     Ok(())
 }
 
-// Whether a turn that was out while the hub forgot is taken in, and the row is then answered.
+// Returns whether a turn that was out while the hub forgot is taken in, and the row is then
+// answered.
 fn is_turn_taken_in<R: Wait>(rt: &R, alloc: Global) -> Result<bool, Fault> {
     let (hub, mut seat) = ready(rt, alloc, 5)?;
     let Leased::Turn(turn) = hub.lease(rt, 256)? else {
@@ -161,7 +163,7 @@ fn a_turn_that_is_out_while_the_hub_forgets_is_taken_in(rt: HostRuntime) -> Resu
     Ok(())
 }
 
-// A hub that forgot three entries, and then had a heartbeat.
+// Makes a hub that forgot three entries, and then had a heartbeat.
 fn forgetful<R: Wait>(rt: &R, alloc: Global) -> Result<Hub, Fault> {
     let (hub, mut seat, _) = filled_up(rt, alloc)?;
     hub.forget(rt)?;
@@ -169,8 +171,8 @@ fn forgetful<R: Wait>(rt: &R, alloc: Global) -> Result<Hub, Fault> {
     Ok(hub)
 }
 
-// The seat of another hub: it made the three calls with this query's name, and if one is named a
-// heartbeat at this instant.
+// Returns the seat of another hub. It made the three calls with this query's name, and a heartbeat
+// at this instant, if one is given.
 fn seat_of_another<R: Wait>(
     rt: &R,
     alloc: Global,
@@ -185,14 +187,14 @@ fn seat_of_another<R: Wait>(
     Ok(seat)
 }
 
-// The seat of another hub that made one call.
+// Returns the seat of another hub that made one call.
 fn seat_of_one_call<R: Wait>(rt: &R, alloc: Global) -> Result<Seat, Fault> {
     let (hub, mut seat) = opened_for(alloc, 9)?;
     declare(rt, alloc, &hub, &mut seat)?;
     Ok(seat)
 }
 
-// Whether a hub that forgot closes with the seat of another one.
+// Returns whether a hub that forgot closes with the seat of another one.
 fn is_closed_by<R: Wait>(rt: &R, alloc: Global, seat: Seat) -> Result<bool, Fault> {
     let hub = forgetful(rt, alloc)?;
     Ok(closed_with(alloc, hub, seat)?.is_some())

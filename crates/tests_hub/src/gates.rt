@@ -1,4 +1,4 @@
-//! Turns overlap, and clients are answered while a turn is out.
+//! Tests that turns overlap, and that clients are answered while a turn is out.
 
 use crate::fixture::{declare, opened, register, rows};
 use hub::{Hub, Seat};
@@ -12,10 +12,10 @@ use std::thread::Threads;
 use std::time::{Clock, Duration};
 use workers::{Gate, NoGate, Pool, work};
 
-/// How often a gate looks, with a millisecond of sleep each time.
+/// Limits how often a gate looks, with a millisecond of sleep each time.
 const LOOKS: u32 = 10_000;
 
-// Waits until the flag is up, and says whether it came up before the last look.
+// Waits until the flag is up, and returns whether it came up before the last look.
 fn is_raised<R: Clock>(rt: &R, flag: &AtomicBool) -> bool {
     for _ in 0..LOOKS {
         if flag.load(Ordering::SeqCst) {
@@ -30,15 +30,15 @@ fn is_raised<R: Clock>(rt: &R, flag: &AtomicBool) -> bool {
 #[derive(Drop)]
 struct Held<'a, R: Clock> {
     rt: &'a R,
-    /// The turn 0 went out.
+    /// Says that the turn 0 went out.
     is_out: AtomicBool,
-    /// What the turn 0 waits for was done.
+    /// Says that what the turn 0 waits for was done.
     is_done: AtomicBool,
-    /// It was not done in time.
+    /// Says that it was not done in time.
     is_late: AtomicBool,
-    /// The turn 0 came back.
+    /// Says that the turn 0 came back.
     is_back: AtomicBool,
-    /// It waits until the turn 1 came back.
+    /// Says that it waits until the turn 1 came back.
     for_turn: bool,
 }
 
@@ -54,7 +54,7 @@ impl<'a, R: Clock> Held<'a, R> {
         }
     }
 
-    // Whether the turn 0 came back, and what it waited for was done in time.
+    // Returns whether the turn 0 came back, and what it waited for was done in time.
     fn is_kept(&self) -> bool {
         is_raised(self.rt, &self.is_back) && !self.is_late.load(Ordering::SeqCst)
     }
@@ -80,7 +80,7 @@ impl<'a, R: Clock> Gate for Held<'a, R> {
     }
 }
 
-// A hub over which two queries are ready with a tick each.
+// Makes a hub over which two queries are ready with a tick each.
 fn two_ready<R: Wait>(rt: &R, alloc: Global) -> Result<(Hub, Seat), Fault> {
     let (hub, mut seat) = opened(alloc)?;
     declare(rt, alloc, &hub, &mut seat)?;
@@ -90,7 +90,7 @@ fn two_ready<R: Wait>(rt: &R, alloc: Global) -> Result<(Hub, Seat), Fault> {
     Ok((hub, seat))
 }
 
-// Whether a pool of two runs two turns at once.
+// Returns whether a pool of two runs two turns at once.
 fn overlap_in_a_pool<R: Threads + Wait + Clock + Sync>(rt: &R, alloc: Global, hub: &Hub) -> bool {
     let gate = Held::new(rt, true);
     let drained = Pool::drain(rt, alloc, hub, &gate, 2, 256);
@@ -104,7 +104,7 @@ fn a_pool_runs_two_turns_at_once(rt: HostRuntime) -> Result<(), Fail> {
     Ok(())
 }
 
-// Whether the turn 0 came back in time. Then it calls the end.
+// Returns whether the turn 0 came back in time. Then calls the end.
 fn end_behind_it<R: Wait + Clock>(rt: &R, hub: &Hub, gate: &Held<'_, R>) -> bool {
     let is_kept = gate.is_kept();
     hub.end(rt);
@@ -125,7 +125,7 @@ fn work_by_two<R: Threads + Wait + Clock + Sync>(
     );
 }
 
-// Whether two workers run two turns at once.
+// Returns whether two workers run two turns at once.
 fn overlap<R: Threads + Wait + Clock + Sync>(rt: &R, alloc: Global, hub: &Hub) -> bool {
     let held = Held::new(rt, true);
     let gate = &held;
@@ -163,7 +163,7 @@ fn append_meanwhile<R: Wait + Clock>(
     is_out && is_appended && is_kept
 }
 
-// Whether a client is answered while a worker has a turn.
+// Returns whether a client is answered while a worker has a turn.
 fn is_answered_meanwhile<R: Threads + Wait + Clock + Sync>(
     rt: &R,
     alloc: Global,
@@ -187,7 +187,7 @@ fn a_client_is_answered_while_a_turn_is_out(rt: HostRuntime) -> Result<(), Fail>
     Ok(())
 }
 
-// Whether a drain with so many workers and rows is refused.
+// Returns whether a drain with this many workers and rows is refused.
 fn is_refused<R: Threads + Wait + Sync>(
     rt: &R,
     alloc: Global,
@@ -198,7 +198,7 @@ fn is_refused<R: Threads + Wait + Sync>(
     Pool::drain(rt, alloc, hub, &NoGate, workers, rows) == Err(Fault::BadLimit)
 }
 
-// Whether pools have 1 to 64 workers, and their turns 1 to 1,024 rows.
+// Returns whether pools have 1 to 64 workers, and their turns 1 to 1,024 rows.
 fn are_limits_kept<R: Threads + Wait + Sync>(rt: &R, alloc: Global, hub: &Hub) -> bool {
     is_refused(rt, alloc, hub, 0, 256)
         && is_refused(rt, alloc, hub, 65, 256)

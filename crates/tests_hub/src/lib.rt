@@ -1,8 +1,8 @@
-//! Worked rows of the hub, its workers and its server, as tests: with real threads, and against an
+//! Tests the hub, its workers and its server with worked rows: with real threads, and against an
 //! engine of one thread.
 //!
-//! They stand in a crate of their own because a crate's tests are proved with all of the crate once
-//! more.
+//! The tests have a crate of their own because a crate's tests are proved with all of the crate
+//! once more.
 #![tactic(auto)]
 
 #[cfg(test)]

@@ -1,5 +1,5 @@
-//! The body of `cqld`: a connection to the port that it tells, and what it says where it has no
-//! words.
+//! Tests the body of `cqld`: a connection to the port that it prints, and what it says if its words
+//! cannot be read.
 
 use crate::server::ask;
 use programs::{lack_server_memory, lack_server_words, run_server};
@@ -13,10 +13,10 @@ use std::time::{Clock, Duration};
 use std::{io, thread};
 use wire::{DeviceFailed, MemorySink, Sink};
 
-/// How often a client looks for the port, with a millisecond of sleep each time.
+/// Limits how often a client looks for the port, with a millisecond of sleep each time.
 const LOOKS: u32 = 10_000;
 
-// The number behind the last colon of a line.
+// Returns the number after the last colon of a line.
 fn number_behind(line: &[u8]) -> u64 {
     let mut number: u64 = 0;
     for byte in line {
@@ -33,10 +33,10 @@ fn number_behind(line: &[u8]) -> u64 {
     number
 }
 
-/// A sink that tells another thread the number behind the last colon of what it is given.
+/// Passes on to another thread the number after the last colon of what the sink is given.
 #[derive(Drop)]
 struct Teller<'a> {
-    /// The number.
+    /// Holds the number.
     told: &'a AtomicU64,
 }
 
@@ -53,7 +53,7 @@ impl<'a> Sink for Teller<'a> {
     }
 }
 
-// Waits until a port is told, connects to it, and asks.
+// Waits until a port is known, connects to it, and asks.
 fn ask_there<R: Net<Listener = TcpListener, Stream = TcpStream> + Clock>(
     rt: &R,
     alloc: Global,
@@ -71,8 +71,8 @@ fn ask_there<R: Net<Listener = TcpListener, Stream = TcpStream> + Clock>(
     Ok(String::new(alloc))
 }
 
-// Serves one connection by one worker, on a port that the system chooses: the status, and what was
-// said of errors.
+// Serves one connection by one worker, on a port that the system chooses. Returns the status, and
+// what was written of errors.
 fn serve_one<R: Net<Listener = TcpListener, Stream = TcpStream> + Threads + Wait + Sync>(
     rt: &R,
     alloc: Global,
@@ -91,7 +91,7 @@ fn serve_one<R: Net<Listener = TcpListener, Stream = TcpStream> + Threads + Wait
     (status, errors)
 }
 
-// What a client took of a server that was started by its words, and how that ended.
+// Returns what a client took from a server that was started by its words, and how that ended.
 fn asked_by_words<
     R: Net<Listener = TcpListener, Stream = TcpStream> + Threads + Wait + Clock + Sync,
 >(rt: &R, alloc: Global) -> io::Result<(String, u8, MemorySink)> {
@@ -116,14 +116,15 @@ fn a_server_of_words_answers_a_connection(rt: HostRuntime) -> Result<(), Fail> {
     Ok(())
 }
 
-// Whether words that could not be read for such an error are told so.
+// Returns whether the server says, with this status and line, that an error of this kind kept its
+// words from being read.
 fn are_words_told(alloc: Global, kind: io::ErrorKind, status: u8, line: &str) -> bool {
     let mut errors = MemorySink::new(alloc);
     let ended = lack_server_words(&mut errors, &io::Error::from(kind));
     ended == status && errors.bytes.as_slice() == line.as_bytes()
 }
 
-// What the server says of want of memory for its words, with its status.
+// Returns whether the server says, with its status, that memory for its words ran out.
 fn is_memory_told(alloc: Global) -> bool {
     let mut errors = MemorySink::new(alloc);
     let status = lack_server_memory(&mut errors);

@@ -1,4 +1,4 @@
-//! As many turns are out as may be, and one more operator is ready.
+//! Tests drains while as many turns are out as may be, and one more operator is ready.
 
 use crate::fixture::{declare, opened, register, rows};
 use hub::{Hub, Seat};
@@ -12,10 +12,10 @@ use std::thread::Threads;
 use wire::{MemorySink, MemorySource};
 use workers::{NoGate, Pool};
 
-/// How many turns may be out.
+/// Limits how many turns may be out.
 const TURNS: u64 = 64;
 
-// A hub of which one query more is ready than turns may be out, each with one row.
+// Makes a hub with one more query ready than turns may be out, each with one row.
 fn many_ready<R: Wait>(rt: &R, alloc: Global) -> Result<(Hub, Seat), Fault> {
     let (hub, mut seat) = opened(alloc)?;
     declare(rt, alloc, &hub, &mut seat)?;
@@ -28,7 +28,7 @@ fn many_ready<R: Wait>(rt: &R, alloc: Global) -> Result<(Hub, Seat), Fault> {
     Ok((hub, seat))
 }
 
-// Takes as many turns as may be out: how many there were.
+// Takes as many turns as may be out, and returns how many there were.
 fn hold_all<R: Wait>(rt: &R, hub: &Hub) -> Result<u64, Fault> {
     let mut held: u64 = 0;
     for _ in 0..TURNS {
@@ -39,7 +39,7 @@ fn hold_all<R: Wait>(rt: &R, hub: &Hub) -> Result<u64, Fault> {
     Ok(held)
 }
 
-// Abandons the turns of these numbers: how many of them were out.
+// Abandons the turns of these numbers, and returns how many of them were out.
 fn abandon_some<R: Wait>(rt: &R, hub: &Hub, first: u64, behind: u64) -> u64 {
     let mut given: u64 = 0;
     for lease in first..behind {
@@ -50,7 +50,7 @@ fn abandon_some<R: Wait>(rt: &R, hub: &Hub, first: u64, behind: u64) -> u64 {
     given
 }
 
-// Whether a connection's drain is answered so.
+// Returns whether a connection's drain is answered so.
 fn is_drain_answered<R: Threads + Wait + Sync>(
     rt: &R,
     alloc: Global,
@@ -64,7 +64,7 @@ fn is_drain_answered<R: Threads + Wait + Sync>(
     served.is_ok() && sink.bytes.as_slice() == reply
 }
 
-// In how many of the queries one answer waits.
+// Returns in how many of the queries one answer waits.
 fn answered_queries<R: Wait>(rt: &R, hub: &Hub) -> u64 {
     let mut answered: u64 = 0;
     for query in 0..65 {
@@ -75,8 +75,8 @@ fn answered_queries<R: Wait>(rt: &R, hub: &Hub) -> u64 {
     answered
 }
 
-// Whether drains are refused while all turns are out: by pools of one and of four, and over a
-// connection.
+// Returns whether drains are refused while all turns are out: by pools of one and of four, and over
+// a connection.
 fn are_refused<R: Threads + Wait + Sync>(
     rt: &R,
     alloc: Global,
@@ -94,26 +94,26 @@ fn are_refused<R: Threads + Wait + Sync>(
         )
 }
 
-/// What came of the drains.
+/// Holds what came of the drains.
 #[derive(Debug, PartialEq, Eq, Drop)]
 struct Drained {
-    /// How many turns were out.
+    /// Counts the turns that were out.
     held: u64,
-    /// The drains were refused meanwhile.
+    /// Says that the drains were refused meanwhile.
     are_refused: bool,
-    /// A connection's drain was done once one turn was abandoned.
+    /// Says that a connection's drain was done once one turn was abandoned.
     is_done: bool,
-    /// In how many queries an answer waits behind it.
+    /// Counts the queries with an answer that waits after it.
     answered: u64,
-    /// How many turns were out still.
+    /// Counts the turns that were still out.
     given_up: u64,
-    /// A pool's drain was done once none was out.
+    /// Says that a pool's drain was done once none was out.
     is_pool_done: bool,
-    /// In how many queries an answer waits at the end.
+    /// Counts the queries with an answer that waits at the end.
     answered_at_last: u64,
 }
 
-// Drains while all turns are out, behind one that is abandoned, and behind all.
+// Drains while all turns are out, then after one is abandoned, and then after all are.
 fn drain_all<R: Threads + Wait + Sync>(rt: &R, alloc: Global) -> Result<Drained, Fault> {
     let (hub, mut seat) = many_ready(rt, alloc)?;
     let held = hold_all(rt, &hub)?;
@@ -141,7 +141,7 @@ fn a_drain_is_refused_while_all_turns_are_out(rt: HostRuntime) -> Result<(), Fai
         held: 64,
         are_refused: true,
         is_done: true,
-        // the query whose turn was abandoned, and the one of which none was out
+        // the query whose turn was abandoned, and the one that had no turn out
         answered: 2,
         given_up: 63,
         is_pool_done: true,

@@ -1,4 +1,4 @@
-//! Scripts over a hub: by a pool, by a client's own thread, and where a device fails.
+//! Tests scripts over a hub: by a pool, by a client's own thread, and with a device that fails.
 
 use crate::fixture::{entries_of, opened};
 use hub::{CommandKind, Hub, Seat};
@@ -10,7 +10,7 @@ use std::test::Fail;
 use std::thread::Threads;
 use wire::{DeviceFailed, MemorySink, MemorySource, ScriptFault, Sink};
 
-// A script of two streams and two queries. No clause says what it is, so no proof reads it.
+// Is a script of two streams and two queries. No clause says what it is, so no proof reads it.
 fn two_streams() -> &'static str {
     r#"{"op":"stream","name":"A","columns":["k"],"from":0}
 {"op":"stream","name":"B","columns":["k","v"],"from":0}
@@ -32,7 +32,7 @@ fn two_streams() -> &'static str {
 "#
 }
 
-// What the definition answers it.
+// Is what the definition answers it.
 fn two_streams_answered() -> &'static str {
     r#"{"ok":true}
 {"ok":true}
@@ -54,8 +54,8 @@ fn two_streams_answered() -> &'static str {
 "#
 }
 
-/// Whether the script is answered by these replies, by a pool of so many workers or by the client's
-/// own thread; and how many entries the hub has when it is closed behind it.
+/// Returns whether the script is answered by these replies. A pool of this many workers answers it,
+/// or the client's own thread. Returns also how many entries the hub has when it is closed then.
 pub(crate) fn is_answered_by<R: Threads + Wait + Sync>(
     rt: &R,
     alloc: Global,
@@ -99,7 +99,7 @@ fn a_script_is_answered_by_its_text(rt: HostRuntime) -> Result<(), Fail> {
         (None, 256),
         (None, 1),
     ] {
-        // all requests but the two drains and the take that is refused
+        // all requests except the two drains and the take that is refused
         assert_eq!(rt;
             is_answered_by(&rt, rt.alloc(), script, replies, workers, rows)?,
             (true, Some(14)),
@@ -109,10 +109,10 @@ fn a_script_is_answered_by_its_text(rt: HostRuntime) -> Result<(), Fail> {
     Ok(())
 }
 
-/// A sink of which each write fails.
+/// Is a sink that fails at each write.
 #[derive(Drop)]
 struct Broken {
-    /// How many writes have failed.
+    /// Counts the writes that have failed.
     failures: u64,
 }
 
@@ -145,7 +145,8 @@ fn serve_script<R: Threads + Wait + Sync, K: Sink>(
 const DECLARATION: &str = r#"{"op":"stream","name":"A","columns":["k"],"from":0}
 "#;
 
-// Whether a call stands whose reply could not be written, and the next connection goes on.
+// Returns whether a call is kept if its reply could not be written, and the next connection goes
+// on.
 fn is_call_kept<R: Threads + Wait + Sync>(rt: &R, alloc: Global) -> Result<bool, Fault> {
     let (hub, mut seat) = opened(alloc)?;
     let mut broken = Broken { failures: 0 };
@@ -165,7 +166,7 @@ fn a_call_stands_whose_reply_was_not_written(rt: HostRuntime) -> Result<(), Fail
     Ok(())
 }
 
-// Whether a declaration from the instant 0 is all that the seat has a receipt of.
+// Returns whether a declaration from the instant 0 is all that the seat has a receipt of.
 fn is_one_declaration(seat: &Seat) -> bool {
     match seat.receipts() {
         [receipt] => matches!(

@@ -1,4 +1,4 @@
-//! Seats, their receipts, and the history of a hub that is closed.
+//! Tests seats, their receipts, and the history of a hub that is closed.
 
 use crate::fixture::{declare, opened_for, register, rows};
 use hub::{Closed, CommandKind, Entry, Hub, ReplyKind, Seat};
@@ -7,13 +7,13 @@ use std::alloc::Global;
 use std::sync::Wait;
 use std::test::Fail;
 
-// How many seats a hub gives that is opened so.
+// Returns how many seats a hub has that is opened so.
 fn seats_opened(alloc: Global, seats: u64, entries: u64) -> Result<usize, Fault> {
     let (_hub, seats) = Hub::open(alloc, seats, entries)?;
     Ok(seats.len())
 }
 
-// Whether no hub is opened so.
+// Returns whether no hub is opened so.
 fn is_bad(alloc: Global, seats: u64, entries: u64) -> bool {
     seats_opened(alloc, seats, entries) == Err(Fault::BadLimit)
 }
@@ -26,7 +26,7 @@ fn seats_and_entries_have_limits(rt: HostRuntime) {
     assert_eq!(rt; seats_opened(alloc, 64, 16_777_216), Ok(64));
 }
 
-// Makes three calls by two seats: the numbers of the receipts.
+// Makes three calls by two seats, and returns the numbers of the receipts.
 fn call_thrice<R: Wait>(
     rt: &R,
     alloc: Global,
@@ -40,13 +40,14 @@ fn call_thrice<R: Wait>(
     Ok((first.number(), second.number(), third.number()))
 }
 
-// Whether a heartbeat finds the history full, and a take at a query that is not there.
+// Returns whether a heartbeat finds the history full, and so does a take at a query that is not
+// there.
 fn find_it_full<R: Wait>(rt: &R, hub: &Hub, seat: &mut Seat) -> bool {
     hub.heartbeat(rt, seat, 0, 0).err() == Some(Fault::HistoryFull)
         && hub.take(rt, seat, 9, 1).err() == Some(Fault::HistoryFull)
 }
 
-// Closes with one of two seats, by which both come back, and then with both.
+// Closes with one of two seats, after which both come back, and then with both.
 fn closed_with_both(
     alloc: Global,
     hub: Hub,
@@ -64,8 +65,8 @@ fn closed_with_both(
     Ok(hub.close(back).ok())
 }
 
-// Whether the entries are a declaration and a registration of the seat 0, and behind them an append
-// of one row by the seat 1.
+// Returns whether the entries are a declaration and a registration of the seat 0, and after them an
+// append of one row by the seat 1.
 fn are_the_calls(entries: &[Entry]) -> bool {
     let [first, second, third] = entries else {
         return false;
@@ -81,8 +82,8 @@ fn are_the_calls(entries: &[Entry]) -> bool {
         && (first.seat(), second.seat(), third.seat()) == (0, 0, 1)
 }
 
-// Whether three calls of two seats are accepted, two more find the history full, and the history is
-// that of the three.
+// Returns whether three calls of two seats are accepted, two more find the history full, and the
+// history is that of the three.
 fn are_three_accepted<R: Wait>(rt: &R, alloc: Global) -> Result<bool, Fault> {
     let (hub, mut seats) = Hub::open(alloc, 2, 3)?;
     let mut one = seats.pop().ok_or(Fault::BadLimit)?;
@@ -102,8 +103,8 @@ fn each_accepted_call_is_an_entry_and_no_refused_one_is(rt: HostRuntime) -> Resu
     Ok(())
 }
 
-// Tells a seat of a receipt of another hub: how many receipts it then has, and what its next call
-// is refused for.
+// Lets a seat learn a receipt of another hub. Returns how many receipts the seat then has, and what
+// its next call is refused for.
 fn refusal_of_a_foreign<R: Wait>(rt: &R, alloc: Global) -> Result<(usize, Option<Fault>), Fault> {
     let (first, mut at_first) = opened_for(alloc, 9)?;
     let (second, mut at_second) = opened_for(alloc, 9)?;

@@ -1,4 +1,4 @@
-//! A server and its clients, all in this process.
+//! Tests a server and its clients, all in this process.
 ghost use Rattle.std.specs.Prelude.{◌≤◌};
 
 use command_lines::ServeOptions;
@@ -34,16 +34,16 @@ const ROUND: &str = r#"{"op":"drain"}
 const DECLARATION: &str = r#"{"op":"stream","name":"S","columns":["a"],"from":0}
 "#;
 
-/// How many clients call at once.
+/// Is how many clients call at once.
 const CROWD: u32 = 64;
 
-// The rows of a take's reply, without what stands round them.
+// Returns the rows of a take's reply, without what is round them.
 fn rows_in(reply: &str) -> Option<&str> {
     let rest = reply.strip_prefix("{\"ok\":true,\"rows\":[")?;
     rest.strip_suffix("]}\n")
 }
 
-// Adds the rows of a take's reply to those that were taken, and says whether they are three.
+// Adds the rows of a take's reply to those that were taken, and returns whether they are three.
 fn are_three(taken: &mut String, reply: &str) -> io::Result<bool> {
     if let Some(rows) = rows_in(reply) {
         if !rows.is_empty() {
@@ -56,8 +56,8 @@ fn are_three(taken: &mut String, reply: &str) -> io::Result<bool> {
     Ok(taken.as_str().matches('[').count() >= 3)
 }
 
-/// Sends the requests, then drains and takes until three rows were taken, one reply's rows after
-/// the other's.
+/// Sends the requests, then drains and takes until three rows were taken. Returns the rows, those
+/// of one reply after those of the other.
 pub(crate) fn ask(alloc: Global, stream: &TcpStream) -> io::Result<String> {
     let mut writer = stream;
     let mut reader = BufReader::new(alloc, stream)?;
@@ -81,8 +81,8 @@ pub(crate) fn ask(alloc: Global, stream: &TcpStream) -> io::Result<String> {
 }
 
 // Sends the requests, and then only takes, with a millisecond of sleep each time, until three rows
-// were taken: those of one reply after those of the other. The replies to the requests where they
-// were not accepted.
+// were taken. Returns the rows, those of one reply after those of the other. If the requests were
+// not accepted, it returns their replies.
 fn watch<R: Clock>(rt: &R, alloc: Global, stream: &TcpStream) -> io::Result<String> {
     let mut writer = stream;
     let mut reader = BufReader::new(alloc, stream)?;
@@ -107,7 +107,7 @@ fn watch<R: Clock>(rt: &R, alloc: Global, stream: &TcpStream) -> io::Result<Stri
     Ok(taken)
 }
 
-// Sends a text, and gives all that is answered until the server closes.
+// Sends a text, and returns all that is answered until the server closes.
 fn send(alloc: Global, stream: &TcpStream, text: &str) -> io::Result<String> {
     let mut writer = stream;
     writer.write_all(text.as_bytes())?;
@@ -115,7 +115,7 @@ fn send(alloc: Global, stream: &TcpStream, text: &str) -> io::Result<String> {
     io::read_to_string(alloc, stream)
 }
 
-// How a server ended, and what it said.
+// Holds how a server ended, and what it said.
 #[derive(Drop)]
 struct Ending {
     status: u8,
@@ -124,7 +124,7 @@ struct Ending {
 }
 
 impl Ending {
-    // It ended well: it said where it listens, and nothing of errors.
+    // Returns whether it ended well: it said where it listens, and nothing of errors.
     fn is_well(&self) -> bool {
         self.status == 0
             && self.errors.bytes.is_empty()
@@ -136,7 +136,7 @@ impl Ending {
     }
 }
 
-// Serves so many connections, by so many workers.
+// Serves this many connections, by this many workers.
 fn serve_some<R: Threads + Wait + Sync>(
     rt: &R,
     alloc: Global,
@@ -164,7 +164,7 @@ fn serve_some<R: Threads + Wait + Sync>(
     }
 }
 
-// What one client took, and how the server ended.
+// Returns what one client took, and how the server ended.
 fn served_once<R: Net<Listener = TcpListener, Stream = TcpStream> + Threads + Wait + Sync>(
     rt: &R,
     alloc: Global,
@@ -195,7 +195,7 @@ fn a_server_answers_a_connection_and_ends(rt: HostRuntime) -> Result<(), Fail> {
     Ok(())
 }
 
-// What one client took that asked for no drain, and how the server ended.
+// Returns what one client took that asked for no drain, and how the server ended.
 fn watched_once<R: Net<Listener = TcpListener, Stream = TcpStream> + Threads + Wait + Clock + Sync>(
     rt: &R,
     alloc: Global,
@@ -226,8 +226,8 @@ fn workers_bring_the_rows_without_a_drain(rt: HostRuntime) -> Result<(), Fail> {
     Ok(())
 }
 
-// Three clients, one after the other: one sends half a line, one is gone before it is answered, and
-// the third is answered as if the first had not been, and after the calls of the second.
+// Runs three clients, one after the other. One sends half a line, and one is gone before it is
+// answered. The third is answered as if the first had not been, and after the calls of the second.
 fn poor_clients<R: Net<Listener = TcpListener, Stream = TcpStream>>(
     rt: &R,
     alloc: Global,
@@ -279,7 +279,7 @@ fn a_client_that_goes_ends_its_connection_alone(rt: HostRuntime) -> Result<(), F
     Ok(())
 }
 
-// A client that sends nothing keeps its connection open, and another one is answered meanwhile.
+// Keeps the connection of a client open that sends nothing. Another client is answered meanwhile.
 fn beside_a_silent_client<R: Net<Listener = TcpListener, Stream = TcpStream>>(
     rt: &R,
     alloc: Global,
@@ -319,8 +319,8 @@ fn a_silent_client_holds_no_other_one(rt: HostRuntime) -> Result<(), Fail> {
     Ok(())
 }
 
-// The requests of a client that has some twenty millions of bytes answered, and some rows left: 512
-// rows, shown at 163 instants, by 16 columns of 13 digits each.
+// Makes the requests of a client that has some twenty million bytes answered, and some rows left.
+// These are 512 rows, shown at 163 instants, by 16 columns of 13 digits each.
 fn greed(alloc: Global) -> Result<String, AllocError> {
     let mut script = String::from_str(alloc, DECLARATION)?;
     script.push_str(r#"{"op":"query","name":"q","text":"Rstream(Select "#)?;
@@ -342,7 +342,7 @@ fn greed(alloc: Global) -> Result<String, AllocError> {
 }
 
 // Takes a row of another client's query, with a millisecond of sleep each time that there is none
-// yet: how many of its columns are what that client appended.
+// yet. Returns how many of its columns are what that client appended.
 fn columns_taken<R: Clock>(rt: &R, alloc: Global, stream: &TcpStream) -> io::Result<usize> {
     let mut writer = stream;
     let mut reader = BufReader::new(alloc, stream)?;
@@ -360,9 +360,10 @@ fn columns_taken<R: Clock>(rt: &R, alloc: Global, stream: &TcpStream) -> io::Res
     Ok(0)
 }
 
-// A client that reads no reply has more of them than the system keeps for it, so its thread waits.
-// Another one is answered meanwhile: what it takes of the first one's query, and whether its own
-// calls are answered. Then the first one is gone.
+// Runs a client that reads no reply. It has more of them than the system keeps for it, so its
+// thread waits. Another client is answered meanwhile, and then the first one is gone. Returns how
+// many columns the other client takes of the first one's query, and whether its own calls are
+// answered.
 fn beside_a_slow_client<R: Net<Listener = TcpListener, Stream = TcpStream> + Clock>(
     rt: &R,
     alloc: Global,
@@ -401,7 +402,7 @@ fn a_client_that_reads_nothing_holds_no_other_one(rt: HostRuntime) -> Result<(),
     Ok(())
 }
 
-// How a server ends that cannot accept: its listener does not wait for a connection.
+// Returns how a server ends that cannot accept: its listener does not wait for a connection.
 fn served_by_no_door<R: Threads + Wait + Sync>(
     rt: &R,
     alloc: Global,
@@ -411,7 +412,7 @@ fn served_by_no_door<R: Threads + Wait + Sync>(
     Ok(serve_some(rt, alloc, listener, 2, 3, 5))
 }
 
-// Whether it ended so, and said it.
+// Returns whether it ended so, and said it.
 fn is_accept_told(ending: &Ending) -> bool {
     ending.status == 1 && ending.errors.bytes.as_slice() == b"cqld: accept failed\n".as_slice()
 }
@@ -426,7 +427,7 @@ fn a_failed_accept_ends_a_server(rt: HostRuntime) -> Result<(), Fail> {
     Ok(())
 }
 
-// Whether a client with a stream of its own is answered.
+// Returns whether a client with a stream of its own is answered.
 fn is_answered(alloc: Global, stream: &TcpStream, number: u32) -> io::Result<bool> {
     let script = format!(in alloc;
         "{{\"op\":\"stream\",\"name\":\"S{number}\",\"columns\":[\"a\"],\"from\":0}}\n\
@@ -441,8 +442,8 @@ fn is_answered(alloc: Global, stream: &TcpStream, number: u32) -> io::Result<boo
     )
 }
 
-// Connects as many clients as may be, and then talks to the server from the last to the first: how
-// many are answered.
+// Connects as many clients as may be, and then talks to the server from the last to the first.
+// Returns how many are answered.
 fn answered_of_a_crowd<R: Net<Listener = TcpListener, Stream = TcpStream>>(
     rt: &R,
     alloc: Global,

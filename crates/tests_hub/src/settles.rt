@@ -1,4 +1,4 @@
-//! Seats that settle: their receipts are compared and let go, and the hub still closes.
+//! Tests seats that settle: their receipts are compared and let go, and the hub still closes.
 
 use crate::fixture::{declare, opened_for, register, rows};
 use hub::{Closed, Hub, Seat};
@@ -7,9 +7,9 @@ use std::alloc::Global;
 use std::sync::Wait;
 use std::test::Fail;
 
-// Steps of a seat that declared the stream: `a` appends a row, `s` settles, and at `f` the hub
-// forgets. Then how many entries the opening replaces, how many follow, how many calls were
-// settled, and how many were compared by their numbers alone.
+// Lists the steps of a seat that declared the stream: `a` appends a row, `s` settles, and at `f`
+// the hub forgets. Then come the entries that the opening replaces, those that follow, the calls
+// that were settled, and those that were compared by their numbers alone.
 const ROWS: [(&str, (u64, usize, u64, u64)); 9] = [
     ("aa", (0, 3, 0, 0)),
     ("af", (2, 0, 0, 2)),
@@ -36,7 +36,7 @@ fn closed_with(alloc: Global, hub: Hub, seat: Seat) -> Result<Option<Closed>, Fa
     Ok(hub.close(seats).ok())
 }
 
-// Takes one step. Returns false if a seat that settles keeps a receipt.
+// Takes one step. Returns `false` if a seat that settles keeps a receipt.
 fn take_step<R: Wait>(
     rt: &R,
     alloc: Global,
@@ -52,7 +52,7 @@ fn take_step<R: Wait>(
     Ok(true)
 }
 
-// What a hub counts that is closed after these steps. None if it does not close.
+// Returns what a hub counts that is closed after these steps, or `None` if it does not close.
 fn counts_after<R: Wait>(
     rt: &R,
     alloc: Global,
@@ -79,13 +79,17 @@ fn counts_after<R: Wait>(
 #[test]
 fn each_call_is_compared_once(rt: HostRuntime) -> Result<(), Fail> {
     for (steps, counts) in ROWS {
-        assert_eq!(rt; counts_after(&rt, rt.alloc(), steps)?, Some(counts), "after {steps}");
+        assert_eq!(rt;
+            counts_after(&rt, rt.alloc(), steps)?,
+            Some(counts),
+            "after {steps}"
+        );
     }
     Ok(())
 }
 
-// Of two seats one settles, and calls again: how many calls were settled when the hub closes, and
-// how many entries there are.
+// Lets one of two seats settle and call again. Returns how many calls were settled when the hub
+// closes, and how many entries there are.
 fn one_of_two_settles<R: Wait>(rt: &R, alloc: Global) -> Result<Option<(u64, usize)>, Fault> {
     let (hub, mut seats) = Hub::open(alloc, 2, 9)?;
     let mut one = seats.pop().ok_or(Fault::BadLimit)?;
@@ -112,7 +116,7 @@ fn a_hub_closes_of_which_one_seat_settled(rt: HostRuntime) -> Result<(), Fail> {
     Ok(())
 }
 
-// A hub whose seat declared the stream and registered a query of this name.
+// Opens a hub whose seat declared the stream and registered a query of this name.
 fn registered<R: Wait>(rt: &R, alloc: Global, name: &str) -> Result<(Hub, Seat), Fault> {
     let (hub, mut seat) = opened_for(alloc, 9)?;
     declare(rt, alloc, &hub, &mut seat)?;
@@ -120,8 +124,8 @@ fn registered<R: Wait>(rt: &R, alloc: Global, name: &str) -> Result<(Hub, Seat),
     Ok((hub, seat))
 }
 
-// Whether the seat of another hub, whose query has another name, is refused and keeps its receipts.
-// The hub's own seat settles afterwards.
+// Returns whether the seat of another hub, whose query has another name, is refused and keeps its
+// receipts. The hub's own seat settles afterwards.
 fn is_other_refused<R: Wait>(rt: &R, alloc: Global) -> Result<bool, Fault> {
     let (hub, mut own) = registered(rt, alloc, "q")?;
     let (_other_hub, mut other) = registered(rt, alloc, "p")?;
@@ -135,8 +139,8 @@ fn a_seat_of_another_hub_keeps_its_receipts(rt: HostRuntime) -> Result<(), Fail>
     Ok(())
 }
 
-// How many streams and queries the opening of a hub has that forgot three entries, and from which
-// instant its query goes on.
+// Returns how many streams and queries the opening of a hub has that forgot three entries, and from
+// which instant its query goes on.
 fn opening_of_three<R: Wait>(
     rt: &R,
     alloc: Global,

@@ -1,4 +1,4 @@
-//! Seats in threads of their own.
+//! Tests seats in threads of their own.
 
 use crate::fixture::{declare, register, rows};
 use crossbeam_channel::{Receiver, Sender, unbounded};
@@ -10,7 +10,7 @@ use std::test::Fail;
 use std::thread;
 use std::thread::Threads;
 
-// Appends one row a call, so often, and gives the seat back.
+// Appends one row a call, this many times, and gives the seat back.
 fn append_often<R: Wait>(
     rt: &R,
     alloc: Global,
@@ -27,7 +27,7 @@ fn append_often<R: Wait>(
     seat
 }
 
-// Appends so often by each seat, in a thread of its own.
+// Appends a hundred times by each seat, in a thread of its own.
 fn append_by_all<R: Threads + Wait + Sync>(
     rt: &R,
     alloc: Global,
@@ -39,13 +39,13 @@ fn append_by_all<R: Threads + Wait + Sync>(
     thread::map_vec(rt, seats, &append)
 }
 
-// How many entries are of a seat.
+// Counts the entries of a seat.
 fn calls_of(entries: &[Entry], seat: u64) -> usize {
     entries.iter().filter(|entry| entry.seat() == seat).count()
 }
 
-// Lets four seats append a hundred times each: how many entries the history then has, and whether a
-// hundred are of each of them.
+// Lets four seats append a hundred times each. Returns how many entries the history then has, and
+// whether a hundred are of each of them.
 fn entries_of_four<R: Threads + Wait + Sync>(
     rt: &R,
     alloc: Global,
@@ -70,7 +70,7 @@ fn the_history_has_the_calls_of_all_threads(rt: HostRuntime) -> Result<(), Fail>
     Ok(())
 }
 
-// Appends so often, and sends the receipt of each append on. Gives the seat back.
+// Appends fifty times, and sends the receipt of each append on. Gives the seat back.
 fn tell_often<R: Wait>(
     rt: &R,
     alloc: Global,
@@ -108,8 +108,8 @@ fn learn_often<R: Wait>(
     (seat, behind)
 }
 
-// Lets one seat append and the other take, each in a thread of its own: both seats, and how many
-// takes stand behind what was learnt before them.
+// Lets one seat append and the other take, each in a thread of its own. Returns both seats, and how
+// many takes come after what was learnt before them.
 fn tell_and_learn<R: Threads + Wait + Sync>(
     rt: &R,
     alloc: Global,
@@ -126,7 +126,7 @@ fn tell_and_learn<R: Threads + Wait + Sync>(
     Ok((zero, one, behind))
 }
 
-// A hub with a stream and a query, and two seats.
+// Makes a hub with a stream and a query, and two seats.
 fn with_two_seats<R: Wait>(rt: &R, alloc: Global) -> Result<(Hub, Seat, Seat), Fault> {
     let (hub, mut seats) = Hub::open(alloc, 2, 1_000)?;
     let one = seats.pop().ok_or(Fault::BadLimit)?;
@@ -136,7 +136,8 @@ fn with_two_seats<R: Wait>(rt: &R, alloc: Global) -> Result<(Hub, Seat, Seat), F
     Ok((hub, zero, one))
 }
 
-// How many entries the history of a hub with these two seats has. None where it does not close.
+// Returns how many entries the history of a hub with these two seats has, or `None` if it does not
+// close.
 fn entries_of_both(alloc: Global, hub: Hub, zero: Seat, one: Seat) -> Result<Option<usize>, Fault> {
     let mut back = Vec::new(alloc);
     back.reserve(2)?;
@@ -148,8 +149,8 @@ fn entries_of_both(alloc: Global, hub: Hub, zero: Seat, one: Seat) -> Result<Opt
     }
 }
 
-// How many takes of one seat stand behind what it was told by another, and how many entries there
-// are.
+// Returns how many takes of one seat come after what it learnt from another, and how many entries
+// there are.
 fn takes_behind<R: Threads + Wait + Sync>(
     rt: &R,
     alloc: Global,

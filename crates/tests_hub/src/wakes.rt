@@ -1,5 +1,5 @@
-//! A worker that waits is woken by a heartbeat, and a pool that waits for a turn by its query's
-//! drop and by its abandon.
+//! Tests that a heartbeat wakes a worker that waits. A pool that waits for a turn is woken by its
+//! query's drop and by its abandon.
 
 use crate::fixture::{filled, ready};
 use hub::{Hub, Seat};
@@ -14,14 +14,14 @@ use std::thread::Threads;
 use std::time::{Clock, Duration};
 use workers::{NoGate, Pool, work};
 
-/// How often a client looks, with a millisecond of sleep each time.
+/// Limits how often a client looks, with a millisecond of sleep each time.
 const LOOKS: u32 = 10_000;
 
-/// After how many milliseconds a worker waits, most likely.
+/// Counts the milliseconds after which a worker waits, most likely.
 const REST: u64 = 50;
 
-// Closes the instant once the worker waits, and says whether an answer came before the last look.
-// Then it calls the end.
+// Closes the instant once the worker waits, and returns whether an answer came before the last
+// look. Then calls the end.
 fn close_an_instant<R: Wait + Clock>(rt: &R, hub: &Hub, mut seat: Seat) -> bool {
     thread::sleep(rt, Duration::from_millis(REST));
     let _ = hub.heartbeat(rt, &mut seat, 0, 0);
@@ -37,7 +37,7 @@ fn close_an_instant<R: Wait + Clock>(rt: &R, hub: &Hub, mut seat: Seat) -> bool 
     is_answered
 }
 
-// Whether a worker that waits is woken.
+// Returns whether a worker that waits is woken.
 fn is_worker_woken<R: Threads + Wait + Clock + Sync>(
     rt: &R,
     alloc: Global,
@@ -59,8 +59,8 @@ fn a_heartbeat_wakes_a_worker(rt: HostRuntime) -> Result<(), Fail> {
     Ok(())
 }
 
-// Abandons this turn, or drops the query if none is named, once the pool waits, and says whether
-// the pool came back before the last look. Then it calls the end, which wakes a pool that was
+// Abandons this turn once the pool waits, or drops the query if no turn is named. Returns whether
+// the pool came back before the last look. Then calls the end, which wakes a pool that was
 // forgotten.
 fn let_go<R: Wait + Clock>(
     rt: &R,
@@ -86,15 +86,16 @@ fn let_go<R: Wait + Clock>(
     is_done && is_woken
 }
 
-// Drains by a pool of one worker, and raises the flag when it comes back. Whether it drained.
+// Drains by a pool of one worker, and raises the flag when it comes back. Returns whether it
+// drained.
 fn drain<R: Threads + Wait + Sync>(rt: &R, alloc: Global, hub: &Hub, is_back: &AtomicBool) -> bool {
     let drained = Pool::drain(rt, alloc, hub, &NoGate, 1, 256);
     is_back.store(true, Ordering::SeqCst);
     drained.is_ok()
 }
 
-// Whether a pool that waits for the turn that is out comes back once this one is abandoned, or the
-// query is dropped if none is named.
+// Returns whether a pool that waits for the turn that is out comes back. This turn is abandoned, or
+// the query is dropped if none is named.
 fn is_pool_woken<R: Threads + Wait + Clock + Sync>(
     rt: &R,
     alloc: Global,
@@ -112,7 +113,7 @@ fn is_pool_woken<R: Threads + Wait + Clock + Sync>(
     is_drained && is_woken
 }
 
-// Takes the turn that is ready: its number.
+// Takes the turn that is ready, and returns its number.
 fn held_turn<R: Wait>(rt: &R, hub: &Hub) -> Result<u64, Fault> {
     match hub.lease(rt, 256)? {
         Leased::Turn(turn) => Ok(turn.lease),
@@ -120,8 +121,8 @@ fn held_turn<R: Wait>(rt: &R, hub: &Hub) -> Result<u64, Fault> {
     }
 }
 
-// Holds the one turn of a hub while a pool waits for it: whether the pool came back once it was let
-// go, and how many answers then wait.
+// Holds the one turn of a hub while a pool waits for it, and then lets it go. Returns whether the
+// pool then came back, and how many answers wait.
 fn woken_by<R: Threads + Wait + Clock + Sync>(
     rt: &R,
     alloc: Global,

@@ -1,4 +1,4 @@
-//! What clients call, once more where memory was refused.
+//! Makes the calls of clients, once more if they run out of memory.
 
 use crate::looks::Look;
 use crate::stop::Stop;
@@ -7,25 +7,25 @@ use reference::{Answering, Fault};
 use std::alloc::Global;
 use wire::{Reply, Request, answer};
 
-/// The most rows of the turns of a drain.
+/// Limits the rows of the turns of a drain.
 const ROWS: u32 = 7;
 
-/// An engine under test, as its clients call it.
+/// Is an engine under test, as its clients call it.
 #[derive(Drop)]
 pub(crate) struct Client {
     pub(crate) engine: Engine,
-    /// How many queries were registered.
+    /// Counts the queries that were registered.
     registered: u64,
-    /// Whether its drains are made of turns that go out.
+    /// Says whether its drains are made of turns that go out.
     by_turns: bool,
-    /// How many calls wanted memory that may break a query: drains that ran turns, and turns that
-    /// came back.
+    /// Counts the calls that ran out of memory and may break a query: drains that ran turns, and
+    /// turns that came back.
     pub(crate) breaking: usize,
-    /// Whether a drain wanted memory before its first turn took anything.
+    /// Says whether a drain ran out of memory before its first turn took anything.
     pub(crate) has_spared: bool,
 }
 
-/// Whether the reply says want of memory.
+/// Returns whether the reply says that memory ran out.
 fn wants_memory(reply: &Reply) -> bool {
     matches!(reply, Reply::Refused(Fault::OutOfMemory))
 }
@@ -46,7 +46,7 @@ impl Client {
         Look::at(alloc, &self.engine, self.registered)
     }
 
-    /// Fails where the engine does not show what it showed before.
+    /// Fails if the engine does not show what it showed before.
     pub(crate) fn expect_same(&self, alloc: Global, before: &Look) -> Result<(), Stop> {
         if before.is_same(&self.look(alloc)?) {
             return Ok(());
@@ -54,9 +54,9 @@ impl Client {
         Err(Stop::Wrong("a call that was refused changed the engine\n"))
     }
 
-    /// Fails where the engine shows what a drain may not leave that wanted memory. It may have run
-    /// turns, and have broken one query, whose queues are empty then. So it broke none where the
-    /// engine shows what it showed before.
+    /// Fails if the engine shows what a drain may not leave that ran out of memory. The drain may
+    /// have run turns, and have broken one query, whose queues are then empty. So it broke none if
+    /// the engine shows what it showed before.
     fn expect_drained(&mut self, alloc: Global, before: &Look) -> Result<(), Stop> {
         let after = self.look(alloc)?;
         if before.is_same(&after) {
@@ -70,8 +70,9 @@ impl Client {
         Err(Stop::Wrong("a drain that was refused lost answers\n"))
     }
 
-    /// What the engine answers to a request. Where it says want of memory, all is as it was, but
-    /// that a drain may have broken a query and have run turns, and it is asked once more.
+    /// Returns what the engine answers to a request. If that runs out of memory, all has to be as
+    /// it was, but a drain may have broken a query and have run turns. Then the request is made
+    /// once more.
     fn ask(&mut self, alloc: Global, request: &Request) -> Result<Reply, Stop> {
         let before = self.look(alloc)?;
         let reply = answer(&mut self.engine, request, ROWS);
@@ -85,7 +86,8 @@ impl Client {
         Ok(answer(&mut self.engine, request, ROWS))
     }
 
-    /// What the engine answers to a request, where a drain may be turns that go out and come back.
+    /// Returns what the engine answers to a request. A drain may be turns that go out and come
+    /// back.
     pub(crate) fn answer(&mut self, alloc: Global, request: &Request) -> Result<Reply, Stop> {
         if self.by_turns && matches!(request, Request::Drain) {
             self.run_turns(alloc)?;
@@ -107,7 +109,7 @@ impl Client {
         }
     }
 
-    /// Whether the query is broken, which takes say once nothing waits.
+    /// Returns whether the query is broken. Takes say so once nothing waits.
     fn is_broken(&mut self, query: u64) -> bool {
         for _ in 0..16u32 {
             match self.engine.take(query, 4_096) {
@@ -119,9 +121,9 @@ impl Client {
         false
     }
 
-    /// Fails where more queries are broken than calls wanted memory that may break one; and where a
-    /// broken query has something to take once streams have closed further instants, or may not be
-    /// dropped.
+    /// Fails if more queries are broken than calls ran out of memory that may break one. Fails also
+    /// if a broken query has something to take once streams have closed further instants, or may
+    /// not be dropped.
     pub(crate) fn end(&mut self, alloc: Global) -> Result<(), Stop> {
         self.close_further();
         let look = self.look(alloc)?;

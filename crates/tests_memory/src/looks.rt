@@ -1,4 +1,4 @@
-//! What an engine shows.
+//! Looks at what an engine shows.
 
 use crate::stop::Stop;
 use envelope::Slope;
@@ -7,7 +7,7 @@ use plan::Kind;
 use reference::{Answering, Fault};
 use std::alloc::{AllocError, Global};
 
-/// The numerator and the denominator of each slope.
+/// Returns the numerator and the denominator of each slope.
 fn slopes_in(alloc: Global, slopes: &[(Kind, Slope)]) -> Result<Vec<u64>, AllocError> {
     let mut numbers = Vec::new(alloc);
     for (_, slope) in slopes {
@@ -18,7 +18,7 @@ fn slopes_in(alloc: Global, slopes: &[(Kind, Slope)]) -> Result<Vec<u64>, AllocE
     Ok(numbers)
 }
 
-/// What a query shows: how much waits for a take, its slopes, and how much is in each of its
+/// Holds what a query shows: how much waits for a take, its slopes, and how much is in each of its
 /// queues.
 #[derive(Drop)]
 pub(crate) struct Shown {
@@ -28,7 +28,7 @@ pub(crate) struct Shown {
 }
 
 impl Shown {
-    /// What an engine shows of a query, which may have been dropped.
+    /// Returns what an engine shows of a query, which may have been dropped.
     fn of(alloc: Global, engine: &Engine, query: u64) -> Result<Shown, Fault> {
         let (mut slopes, mut queues) = (Vec::new(alloc), Vec::new(alloc));
         let waiting = engine.waiting(query).ok();
@@ -43,19 +43,19 @@ impl Shown {
         })
     }
 
-    /// Whether the query shows the same but for its queues, and has as many of these.
+    /// Returns whether the query shows the same except its queues, and has as many of these.
     fn is_like(&self, other: &Shown) -> bool {
         self.waiting == other.waiting
             && self.slopes.as_slice() == other.slopes.as_slice()
             && self.queues.len() == other.queues.len()
     }
 
-    /// Whether the query shows the same.
+    /// Returns whether the query shows the same.
     fn is_same(&self, other: &Shown) -> bool {
         self.is_like(other) && self.queues.as_slice() == other.queues.as_slice()
     }
 
-    /// Whether the query shows afterwards that nothing that waited is gone, and has the same slopes
+    /// Returns whether nothing that waited is gone afterwards, and the query has the same slopes
     /// and as many queues.
     fn goes_on_to(&self, after: &Shown) -> bool {
         let is_kept = match (self.waiting, after.waiting) {
@@ -68,17 +68,17 @@ impl Shown {
             && self.queues.len() == after.queues.len()
     }
 
-    /// Whether nothing is in its queues.
+    /// Returns whether nothing is in its queues.
     pub(crate) fn is_idle(&self) -> bool {
         self.queues.iter().all(|length| *length == 0)
     }
 }
 
-/// As many streams as the scripts have.
+/// Counts the streams, as many as the scripts have.
 const STREAMS: u64 = 4;
 
-/// What an engine shows: how many turns are out, how many rows of each stream are kept, and its
-/// queries.
+/// Holds what an engine shows: how many turns are out, how many rows of each stream are kept, and
+/// its queries.
 #[derive(Drop)]
 pub(crate) struct Look {
     out: usize,
@@ -87,7 +87,7 @@ pub(crate) struct Look {
 }
 
 impl Look {
-    /// A look at an engine at which so many queries were registered.
+    /// Looks at an engine at which this many queries were registered.
     fn once(alloc: Global, engine: &Engine, registered: u64) -> Result<Look, Fault> {
         let mut queries = Vec::new(alloc);
         for query in 0..registered {
@@ -106,7 +106,7 @@ impl Look {
         Ok(Look { out, kept, queries })
     }
 
-    /// A look, once more where memory was refused for it.
+    /// Looks at an engine, and once more if that runs out of memory.
     pub(crate) fn at(alloc: Global, engine: &Engine, registered: u64) -> Result<Look, Stop> {
         if let Ok(look) = Look::once(alloc, engine, registered) {
             return Ok(look);
@@ -114,7 +114,7 @@ impl Look {
         Ok(Look::once(alloc, engine, registered)?)
     }
 
-    /// Whether the engine shows the same.
+    /// Returns whether the engine shows the same.
     pub(crate) fn is_same(&self, after: &Look) -> bool {
         self.out == after.out
             && self.kept.as_slice() == after.kept.as_slice()
@@ -126,8 +126,8 @@ impl Look {
                 .all(|(a, b)| a.is_same(b))
     }
 
-    /// Whether the engine shows afterwards what turns that came back may leave: as many are out,
-    /// and of each query nothing that waited is gone.
+    /// Returns whether the engine shows afterwards what turns that came back may leave. As many
+    /// turns are out, and nothing that waited is gone from any query.
     pub(crate) fn goes_on_to(&self, after: &Look) -> bool {
         self.out == after.out
             && self.queries.len() == after.queries.len()
@@ -138,8 +138,8 @@ impl Look {
                 .all(|(a, b)| a.goes_on_to(b))
     }
 
-    /// Whether the engine shows the same afterwards, but that one query is broken and its turn is
-    /// out no longer.
+    /// Returns whether the engine shows the same afterwards, except that one query is broken and
+    /// its turn is no longer out.
     pub(crate) fn breaks(&self, after: &Look, broken: u64) -> bool {
         if self.queries.len() != after.queries.len() || after.out.checked_add(1) != Some(self.out) {
             return false;

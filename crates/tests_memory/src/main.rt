@@ -1,6 +1,8 @@
-//! Answers scripts over an engine of their own, by turns that go out and come back and by drains,
-//! and looks at all of the engine before and after a call that wants memory: the gate runs it with
-//! ample memory, and `bench/want_of_memory` refuses each of its growths in turn.
+//! Answers scripts over an engine of their own, by turns that go out and come back and by drains.
+//! It looks at all of the engine before and after a call that runs out of memory.
+//!
+//! The gate runs it with ample memory, and `bench/want_of_memory` refuses each of its growths in
+//! turn.
 #![tactic(auto)]
 
 mod client;
@@ -15,8 +17,8 @@ use std::io::{self, Write};
 use std::process::ExitCode;
 use wire::{MemorySink, read_request, write_reply};
 
-/// Answers a script's requests, a line each, over an engine of its own. Whether a drain of it
-/// wanted memory and left all as it was.
+/// Answers a script's requests, a line each, over an engine of its own. Returns whether a drain of
+/// it ran out of memory and left all as it was.
 fn answer_script(
     alloc: Global,
     script: &str,
@@ -37,8 +39,8 @@ fn answer_script(
     Ok(client.has_spared)
 }
 
-/// The replies to a script, and whether a drain of it wanted memory and left all as it was. Where
-/// memory is refused to the tests themselves, the script is answered once more.
+/// Returns the replies to a script, and whether a drain of it ran out of memory and left all as it
+/// was. If the tests themselves run out of memory, the script is answered once more.
 fn replies_to(alloc: Global, script: &str, by_turns: bool) -> Result<(MemorySink, bool), Stop> {
     let mut sink = MemorySink::new(alloc);
     match answer_script(alloc, script, by_turns, &mut sink) {
@@ -53,7 +55,8 @@ fn replies_to(alloc: Global, script: &str, by_turns: bool) -> Result<(MemorySink
 }
 
 /// Writes the replies to all scripts of a text, which a record separator parts that no JSON text
-/// has, and to `told` a line for each of which a drain wanted memory and left all as it was.
+/// has. If a drain of a script ran out of memory and left all as it was, it writes a line to
+/// `told`.
 fn answer_scripts<W: Write, T: Write>(
     alloc: Global,
     text: &str,

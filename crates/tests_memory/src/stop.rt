@@ -1,19 +1,19 @@
-//! Why a script ends early.
+//! Says why a script ends early.
 
 use reference::Fault;
 use std::alloc::AllocError;
 
-/// Why a script ends before its end.
+/// Says why a script ends before its end.
 #[derive(Clone, Copy, PartialEq, Eq, Debug)]
 pub(crate) enum Stop {
-    /// Memory was refused to the tests themselves, which says nothing of the engine.
+    /// Says that the tests themselves ran out of memory, which says nothing of the engine.
     Memory,
-    /// A call answered what it may not, or left the engine as it may not.
+    /// Says that a call answered what it may not, or left the engine as it may not.
     Wrong(&'static str),
 }
 
 impl Stop {
-    /// The line that says so.
+    /// Returns the line that says so.
     pub(crate) fn text(self) -> &'static str {
         match self {
             Stop::Memory => "memory was refused twice\n",

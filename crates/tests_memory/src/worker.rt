@@ -1,4 +1,4 @@
-//! Turns that go out and come back.
+//! Runs turns that go out and come back.
 
 use crate::client::Client;
 use crate::stop::Stop;
@@ -7,11 +7,11 @@ use reference::{Answering, Fault, NewRows};
 use std::alloc::{AllocError, Global};
 use turn::Done;
 
-/// The most rows of a turn.
+/// Limits the rows of a turn.
 const ROWS: u32 = 1_024;
 
-/// The next turn, run, at the second try where memory is refused at the first; None where none is
-/// left.
+/// Leases the next turn and runs it, a second time if the first run is out of memory. Returns
+/// `None` if no turn is left.
 fn next(alloc: Global, engine: &mut Engine) -> Result<Option<Done>, Fault> {
     match engine.lease(ROWS)? {
         Leased::Idle => Ok(None),
@@ -25,7 +25,7 @@ fn next(alloc: Global, engine: &mut Engine) -> Result<Option<Done>, Fault> {
     }
 }
 
-/// A column, and a row of it with its instant.
+/// Makes a column, and a row of it with its instant.
 fn column_and_row(alloc: Global) -> Result<(Vec<String>, NewRows), AllocError> {
     let mut columns = Vec::new(alloc);
     columns.push(String::from_str(alloc, "a")?)?;
@@ -34,7 +34,7 @@ fn column_and_row(alloc: Global) -> Result<(Vec<String>, NewRows), AllocError> {
     Ok((columns, rows))
 }
 
-/// The first turn of another engine, to which the value 6 came.
+/// Runs the first turn of another engine, to which the value 6 came.
 fn stranger(alloc: Global) -> Result<Done, Fault> {
     let (columns, rows) = column_and_row(alloc)?;
     let mut engine = Engine::new(alloc);
@@ -49,8 +49,8 @@ fn stranger(alloc: Global) -> Result<Done, Fault> {
 }
 
 impl Client {
-    /// The next turn, at the second try where memory is refused at the first, which leaves all as
-    /// it was.
+    /// Runs the next turn. If that runs out of memory, it leaves all as it was and is tried a
+    /// second time.
     fn next_turn(&mut self, alloc: Global) -> Result<Option<Done>, Stop> {
         let before = self.look(alloc)?;
         if let Ok(turn) = next(alloc, &mut self.engine) {
@@ -69,7 +69,7 @@ impl Client {
         self.expect_same(alloc, &before)
     }
 
-    /// Brings a turn back. Where memory is refused, its query is broken, and nothing else is
+    /// Brings a turn back. If that runs out of memory, its query is broken, and nothing else is
     /// changed.
     fn finish(&mut self, alloc: Global, done: Done) -> Result<(), Stop> {
         let query = done.parts().node.query;

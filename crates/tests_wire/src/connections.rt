@@ -1,3 +1,4 @@
+//! Tests a connection to the port of a server, and a port that is taken.
 use crate::runs::{FIRST, FIRST_REPLIES};
 use programs::{run, run_server};
 use std::alloc::Global;
@@ -8,7 +9,7 @@ use std::sync::Wait;
 use std::thread::Threads;
 use wire::{MemorySink, ReaderSource, WriterSink};
 
-// The two ends of a connection to this machine itself, where the system allows one.
+// Makes the two ends of a connection to this machine itself, if the system allows one.
 fn connected<R: Net<Listener = TcpListener, Stream = TcpStream>>(
     rt: &R,
 ) -> io::Result<(TcpStream, TcpStream)> {
@@ -18,7 +19,7 @@ fn connected<R: Net<Listener = TcpListener, Stream = TcpStream>>(
     Ok((client, server))
 }
 
-// Whether the first script, sent over a connection, is answered over it.
+// Returns whether the first script, sent over a connection, is answered over it.
 fn is_answered_over_connection<R: Threads + Wait + Sync>(
     rt: &R,
     alloc: Global,
@@ -57,8 +58,8 @@ fn a_connection_is_a_source_and_a_sink(rt: HostRuntime) {
     }
 }
 
-// How a server ended that was asked to listen on a port which a listener has, and what it said: to
-// the sink, and of its errors.
+// Returns how a server ended that was asked to listen on the port of another listener. Returns also
+// what it wrote: to the sink, and of its errors.
 fn beside_a_listener<R: Net<Listener = TcpListener, Stream = TcpStream> + Threads + Wait + Sync>(
     rt: &R,
     alloc: Global,
@@ -87,8 +88,8 @@ fn a_taken_port_is_told(rt: HostRuntime) {
     );
 }
 
-// Whether a server with these words ends so at once, and says something of its errors just where it
-// does not end well.
+// Returns whether a server with these words ends so at once. It says something of its errors only
+// if it does not end well.
 fn serves_to<R: Net<Listener = TcpListener, Stream = TcpStream> + Threads + Wait + Sync>(
     rt: &R,
     alloc: Global,

@@ -1,4 +1,4 @@
-//! Readers and writers whose calls a signal interrupts.
+//! Tests readers and writers whose calls a signal interrupts.
 use crate::runs::{FIRST, FIRST_REPLIES};
 use programs::run;
 use std::alloc::Global;
@@ -8,13 +8,13 @@ use std::sync::Wait;
 use std::thread::Threads;
 use wire::{MemorySink, ReaderSource, Sink, Source, WriterSink};
 
-// A device of which each call is interrupted once, and then gives or takes up to seven bytes.
+// Is a device whose calls are each interrupted once, and then give or take up to seven bytes.
 #[derive(Drop)]
 struct Interrupted<D> {
     device: D,
-    // Whether the call that comes is one made again.
+    // Says whether the next call is one made again.
     is_again: bool,
-    // How many calls were interrupted.
+    // Counts the calls that were interrupted.
     interruptions: usize,
 }
 
@@ -27,7 +27,7 @@ impl<D> Interrupted<D> {
         }
     }
 
-    // Whether this call is interrupted.
+    // Returns whether this call is interrupted.
     fn interrupts(&mut self) -> bool {
         self.is_again = !self.is_again;
         if self.is_again {
@@ -61,14 +61,14 @@ impl Write for Interrupted<Vec<u8>> {
     }
 }
 
-// Whether a read gives what comes behind an interruption, and does not count as failed.
+// Returns whether a read gives what comes after an interruption, and does not count as failed.
 fn read_goes_on() -> bool {
     let mut source = ReaderSource::new(Interrupted::new(b"abc".as_slice()));
     let mut buffer = [0u8; 8];
     source.read(&mut buffer) == Ok(3) && buffer == *b"abc\0\0\0\0\0" && source.failures == 0
 }
 
-// Whether a write takes what it may behind an interruption, and does not count as failed.
+// Returns whether a write takes what it may after an interruption, and does not count as failed.
 fn write_goes_on(alloc: Global) -> bool {
     let mut writer = Interrupted::new(Vec::new(alloc));
     let mut sink = WriterSink::new(&mut writer);
@@ -82,7 +82,7 @@ fn an_interrupted_call_is_made_again(rt: HostRuntime) {
     assert!(rt; write_goes_on(rt.alloc()));
 }
 
-// Whether the first script is answered where each read and each write is interrupted once.
+// Returns whether the first script is answered while each read and each write is interrupted once.
 fn run_goes_on<R: Threads + Wait + Sync>(rt: &R, alloc: Global, words: &[&str]) -> bool {
     let mut reader = Interrupted::new(FIRST.as_bytes());
     let mut writer = Interrupted::new(Vec::new(alloc));

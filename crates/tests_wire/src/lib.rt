@@ -1,8 +1,8 @@
-//! Worked rows of request lines and of the program's runs, as tests: lines in any chunks, when
-//! replies come, devices that fail or are interrupted, a connection.
+//! Tests request lines and the program's runs with worked rows. The rows are lines in any chunks,
+//! when replies come, devices that fail or are interrupted, and a connection.
 //!
-//! They stand in a crate of their own because a crate's tests are proved with all of the crate once
-//! more. Rows that are whole scripts are the stored run of `tests_examples`.
+//! The tests have a crate of their own because a crate's tests are proved with all of the crate
+//! once more. Rows that are whole scripts are the stored run of `tests_examples`.
 #![tactic(auto)]
 
 #[cfg(test)]

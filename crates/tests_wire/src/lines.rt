@@ -1,3 +1,4 @@
+//! Tests lines in any chunks, blank lines, lines that are too long or no requests, and replies.
 ghost use Rattle.std.specs.Prelude.{◌<◌};
 
 use arrayvec::ArrayVec;
@@ -10,7 +11,7 @@ use wire::{
     Source, WireFault, next_request, read_request, write_reply,
 };
 
-// What each line of a source is: the letter of its request, or the digit of its fault.
+// Returns what each line of a source is: the letter of its request, or the digit of its fault.
 fn kinds<S: Source>(alloc: Global, source: &mut S) -> Result<String, AllocError> {
     let mut lines = Lines::new(alloc)?;
     let mut kinds = String::new(alloc);
@@ -146,14 +147,15 @@ fn each_line_is_the_request_that_it_is_in_any_chunks(rt: HostRuntime) -> Result<
     Ok(())
 }
 
-// In how many reads all lines are read.
+// Returns in how many reads all lines are read.
 fn reads_of_lines(alloc: Global) -> Result<u64, AllocError> {
     let mut source = lines_failing_after(u64::MAX);
     kinds(alloc, &mut source)?;
     Ok(u64::MAX.saturating_sub(source.until_failure))
 }
 
-// Whether the kinds before a failing read are a front of all, and the failure was told once.
+// Returns whether the kinds before a failing read are a front of all, and the failure was reported
+// once.
 fn stops_at(alloc: Global, until_failure: u64) -> Result<bool, AllocError> {
     let mut source = lines_failing_after(until_failure);
     let seen = kinds(alloc, &mut source)?;
@@ -171,7 +173,7 @@ fn a_failing_read_is_told_once_and_what_came_before_stands(rt: HostRuntime) -> R
     Ok(())
 }
 
-// A drain with so many spaces in it, and a drain that has no end.
+// Makes a drain with so many spaces in it, and a drain that has no end.
 fn padded(alloc: Global, spaces: u32) -> Result<String, AllocError> {
     let mut text = String::from_str(alloc, "{\"op\":\"drain\"")?;
     for _ in 0..spaces {
@@ -194,7 +196,7 @@ fn a_line_has_at_most_65536_bytes(rt: HostRuntime) -> Result<(), Fail> {
     Ok(())
 }
 
-// So many lists in one another.
+// Makes so many lists in one another.
 fn nested(alloc: Global, depth: u32) -> Result<String, AllocError> {
     let mut text = String::new(alloc);
     for bracket in ["[", "]"] {
@@ -231,7 +233,7 @@ fn rows_of(alloc: Global, count: u16) -> Result<Reply, AllocError> {
     Ok(Reply::Rows(rows))
 }
 
-// Whether the reply is written as this line.
+// Returns whether the reply is written as this line.
 fn is_line(alloc: Global, reply: &Reply, wanted: &str) -> bool {
     let mut sink = MemorySink::new(alloc);
     write_reply(&mut sink, reply).is_ok() && sink.bytes.as_slice() == wanted.as_bytes()
@@ -282,7 +284,7 @@ fn sink_of_width(alloc: Global, width: usize, until_failure: u64) -> Narrow
     }
 }
 
-// In how many writes the reply of so many rows is written.
+// Returns in how many writes the reply of so many rows is written.
 fn writes_of(alloc: Global, count: u16) -> Result<Option<u64>, AllocError> {
     let reply = rows_of(alloc, count)?;
     let mut sink = sink_of_width(alloc, usize::MAX, u64::MAX);
@@ -299,7 +301,7 @@ fn a_line_of_4096_bytes_is_one_write(rt: HostRuntime) -> Result<(), Fail> {
     Ok(())
 }
 
-// The line of a reply.
+// Returns the line of a reply.
 fn line(alloc: Global, reply: &Reply) -> Option<Vec<u8>> {
     let mut sink = MemorySink::new(alloc);
     match write_reply(&mut sink, reply) {
@@ -308,7 +310,7 @@ fn line(alloc: Global, reply: &Reply) -> Option<Vec<u8>> {
     }
 }
 
-// Whether a failing write leaves a front of the line and is told once.
+// Returns whether a failing write leaves a front of the line and is reported once.
 fn leaves_front(alloc: Global, reply: &Reply, line: &[u8], until_failure: u64) -> bool {
     let mut sink = sink_of_width(alloc, 3, until_failure);
     let written = write_reply(&mut sink, reply);
@@ -317,7 +319,7 @@ fn leaves_front(alloc: Global, reply: &Reply, line: &[u8], until_failure: u64) -
         && line.starts_with(sink.sink.bytes.as_slice())
 }
 
-// In how many writes of three bytes the reply is written.
+// Returns in how many writes of three bytes the reply is written.
 fn writes_by_threes(alloc: Global, reply: &Reply) -> u64 {
     let mut sink = sink_of_width(alloc, 3, u64::MAX);
     match write_reply(&mut sink, reply) {

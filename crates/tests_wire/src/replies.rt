@@ -1,4 +1,4 @@
-//! When replies come to a sink, and what stands where one cannot.
+//! Tests when replies come to a sink, and what happens if one cannot.
 use crate::runs::{FIRST, FIRST_REPLIES};
 use programs::run;
 use reference::{Answering, Fault, Plain};
@@ -13,7 +13,7 @@ fn lines_in(text: &[u8]) -> usize {
     text.iter().filter(|byte| **byte == b'\n').count()
 }
 
-// What stands behind the first lines of a text.
+// Returns what comes after the first lines of a text.
 fn behind_lines(text: &[u8], count: usize) -> &[u8] {
     let mut left = count;
     for at in 0..text.len() {
@@ -27,7 +27,7 @@ fn behind_lines(text: &[u8], count: usize) -> &[u8] {
     b""
 }
 
-// The front of a text up to and with the first such byte, but at most so many bytes.
+// Returns the front of the text up to and with the first such byte, but at most so many bytes.
 fn front_of(text: &[u8], last: u8, most: usize) -> &[u8] {
     let most = text.len().min(most);
     for at in 0..most {
@@ -38,16 +38,16 @@ fn front_of(text: &[u8], last: u8, most: usize) -> &[u8] {
     &text[..most]
 }
 
-// A client that sends its script a piece at a time, and the next piece once it has the replies to
-// all lines that it has sent. A read before then fails: it would wait for good.
+// Is a client that sends its script a piece at a time, and the next piece once it has the replies
+// to all lines that it has sent. A read before then fails: it would wait for good.
 #[derive(Drop)]
 struct Client<'a> {
     source: MemorySource<'a>,
-    // The byte that ends a piece.
+    // Is the byte that ends a piece.
     last: u8,
-    // How many lines it has sent.
+    // Counts the lines that it has sent.
     sent: usize,
-    // How many replies have come.
+    // Counts the replies that have come.
     answered: &'a Cell<usize>,
     failures: u64,
 }
@@ -85,7 +85,7 @@ impl Source for Client<'_> {
     }
 }
 
-// A sink that tells how many replies came, and fails once so many writes have gone well.
+// Is a sink that counts the replies that came, and fails once so many writes have gone well.
 #[derive(Drop)]
 struct Replies<'a> {
     sink: MemorySink,
@@ -122,7 +122,8 @@ impl Sink for Replies<'_> {
     }
 }
 
-// Whether a client is answered that sends the first script by pieces which end in this byte.
+// Returns whether a client is answered that sends the first script by pieces which end in this
+// byte.
 fn is_answered_in_turn<R: Threads + Wait + Sync>(
     rt: &R,
     alloc: Global,
@@ -147,8 +148,8 @@ fn a_client_that_waits_for_each_reply_is_answered(rt: HostRuntime) {
     }
 }
 
-// Whether the first script, line by line, ends where so many replies were written and the next one
-// could not be: what was not read, sent once more to the same engine, has the replies behind it.
+// Runs the first script, line by line, until a reply cannot be written after so many. Sends what
+// was not read once more to the same engine. Returns whether that has the replies that follow.
 fn goes_on_behind(alloc: Global, written: usize) -> bool {
     let Ok(mut engine) = Plain::new(alloc) else {
         return false;
@@ -177,7 +178,7 @@ fn no_request_is_read_or_carried_out_behind_a_write_that_fails(rt: HostRuntime) 
     assert!(rt; !goes_on_behind(rt.alloc(), 6));
 }
 
-// A script of a stream, of heartbeats at the instants below this one, and of a query.
+// Makes a script of a stream, of heartbeats at the instants below this one, and of a query.
 fn heartbeats(alloc: Global, until: u64) -> Result<String, AllocError> {
     let mut script = String::from_str(
         alloc,
@@ -193,8 +194,8 @@ fn heartbeats(alloc: Global, until: u64) -> Result<String, AllocError> {
     Ok(script)
 }
 
-// Whether a script that is read at once ends where a first write has to come: 341 replies of 12
-// bytes may be held, as 4,096 bytes, and the reply to the heartbeat at 340 is one more.
+// Returns whether a script that is read at once ends where a first write has to come. In 4,096
+// bytes, 341 replies of 12 bytes may be held; the reply to the heartbeat at 340 is one more.
 fn ends_at_a_full_page(alloc: Global) -> Result<bool, AllocError> {
     let script = heartbeats(alloc, 400)?;
     let Ok(mut engine) = Plain::new(alloc) else {

@@ -1,3 +1,4 @@
+//! Tests command lines, statuses and their texts, the first script, and devices that fail.
 use programs::{
     ServeOptions, WordsFault, lack_memory, lack_words, run, run_options, run_over, serve_options,
 };
@@ -26,8 +27,8 @@ pub(crate) const FIRST_REPLIES: &str = r#"{"ok":true}
 {"ok":true,"rows":[[1,5],[3,6],[3,7]]}
 "#;
 
-// Whether `cqlrun` over memory ends so, and says something of its errors where it does not end
-// well.
+// Returns whether `cqlrun` over memory ends so. It says something of its errors only if it does not
+// end well.
 fn runs_to<R: Threads + Wait + Sync>(
     rt: &R,
     alloc: Global,
@@ -63,8 +64,8 @@ fn a_wrong_word_is_refused_and_nothing_is_answered(rt: HostRuntime) {
     assert!(rt; runs_to(&rt, rt.alloc(), both.as_slice(), FIRST.as_bytes(), 2, b""));
 }
 
-// The most rows of a turn that the words ask for, and whether they ask for the plain engine, where
-// they are not refused.
+// Returns the most rows of a turn that the words ask for, and whether they ask for the plain
+// engine. Returns `None` if they are refused.
 fn asked(alloc: Global, words: &[&str]) -> Option<(u32, bool)> {
     match run_options(alloc, words) {
         Ok(options) => Some((options.turn, options.is_plain)),
@@ -72,7 +73,7 @@ fn asked(alloc: Global, words: &[&str]) -> Option<(u32, bool)> {
     }
 }
 
-// How many workers they ask for.
+// Returns how many workers they ask for.
 fn workers_asked(alloc: Global, words: &[&str]) -> Option<u32> {
     run_options(alloc, words).ok()?.workers
 }
@@ -181,7 +182,7 @@ fn a_turn_is_said_once_or_has_256_rows(rt: HostRuntime) {
     assert_eq!(rt; asked(rt.alloc(), cut_short.as_slice()), None);
 }
 
-// Whether help is written, and nothing of errors.
+// Returns whether help is written, and nothing of errors.
 fn is_helped<R: Threads + Wait + Sync>(rt: &R, alloc: Global) -> bool {
     let words = ["cqlrun", "--help"];
     let mut source = MemorySource::new(FIRST.as_bytes());
@@ -203,7 +204,7 @@ fn help_is_no_error(rt: HostRuntime) {
     assert!(rt; is_helped(&rt, rt.alloc()));
 }
 
-// Memory that gives or takes up to seven bytes at a time, and fails at a call.
+// Is memory that gives or takes up to seven bytes at a time, and fails at a call.
 #[derive(Drop)]
 struct Failing<'a> {
     source: MemorySource<'a>,
@@ -250,7 +251,7 @@ impl Sink for Failing<'_> {
     }
 }
 
-// Memory that fails after so many calls, over these bytes as a source.
+// Makes memory that fails after so many calls, over these bytes as a source.
 fn device_failing_after(
     alloc: Global,
     bytes: &'static [u8],
@@ -264,7 +265,7 @@ fn device_failing_after(
     }
 }
 
-// In how many reads a run reads all of the first script.
+// Returns in how many reads a run reads all of the first script.
 fn reads_of<R: Threads + Wait + Sync>(rt: &R, alloc: Global) -> u64 {
     let words = ["cqlrun", "--plain"];
     let mut source = device_failing_after(alloc, FIRST.as_bytes(), u64::MAX);
@@ -281,7 +282,7 @@ fn reads_of<R: Threads + Wait + Sync>(rt: &R, alloc: Global) -> u64 {
     u64::MAX.saturating_sub(source.until_failure)
 }
 
-// Whether a source that fails ends the run after a front of the replies.
+// Returns whether a source that fails ends the run after a front of the replies.
 fn failing_source_ends<R: Threads + Wait + Sync>(rt: &R, alloc: Global, calls: u64) -> bool {
     let words = ["cqlrun", "--plain"];
     let mut source = device_failing_after(alloc, FIRST.as_bytes(), calls);
@@ -310,7 +311,7 @@ fn a_source_that_fails_at_any_read_ends_the_run_after_a_front_of_the_replies(rt:
     assert!(rt; !failing_source_ends(&rt, rt.alloc(), reads));
 }
 
-// In how many writes a run writes all of the first replies.
+// Returns in how many writes a run writes all of the first replies.
 fn writes_of<R: Threads + Wait + Sync>(rt: &R, alloc: Global) -> u64 {
     let words = ["cqlrun", "--plain"];
     let mut source = MemorySource::new(FIRST.as_bytes());
@@ -327,7 +328,7 @@ fn writes_of<R: Threads + Wait + Sync>(rt: &R, alloc: Global) -> u64 {
     u64::MAX.saturating_sub(sink.until_failure)
 }
 
-// Whether a sink that fails ends the run after a front of the replies.
+// Returns whether a sink that fails ends the run after a front of the replies.
 fn failing_sink_ends<R: Threads + Wait + Sync>(rt: &R, alloc: Global, calls: u64) -> bool {
     let words = ["cqlrun", "--plain"];
     let mut source = MemorySource::new(FIRST.as_bytes());
@@ -358,14 +359,15 @@ fn a_sink_that_fails_at_any_write_ends_the_run_after_a_front_of_the_replies(rt: 
     assert!(rt; !failing_sink_ends(&rt, rt.alloc(), writes));
 }
 
-// What the program says of want of memory, with its status.
+// Returns whether the program says that memory ran out, with its status.
 fn memory_is_told(alloc: Global) -> bool {
     let mut errors = MemorySink::new(alloc);
     let status = lack_memory(&mut errors);
     status == 3 && errors.bytes.as_slice() == b"cqlrun: out of memory\n".as_slice()
 }
 
-// Whether words that could not be read for such an error are told so.
+// Returns whether the program says, with this status and line, that an error of this kind kept its
+// words from being read.
 fn words_are_told(alloc: Global, kind: ErrorKind, status: u8, line: &str) -> bool {
     let mut errors = MemorySink::new(alloc);
     let ended = lack_words(&mut errors, &io::Error::from(kind));
@@ -381,7 +383,7 @@ fn words_that_cannot_be_read_are_told(rt: HostRuntime) {
     assert!(rt; words_are_told(rt.alloc(), no_text, 2, "cqlrun: a word is not UTF-8\n"));
 }
 
-// Whether a line is put by sevens: all of it, or a front of so many bytes where the sink fails
+// Returns whether a line is put by sevens: all of it, or a front of so many bytes if the sink fails
 // after so many writes.
 fn puts(alloc: Global, calls: u64, front: usize) -> bool {
     let line = b"cqlrun: out of memory\n".as_slice();
@@ -397,8 +399,8 @@ fn a_text_is_put_whole_or_in_front(rt: HostRuntime) {
     }
 }
 
-// Whether an engine that knows of the first script's stream answers what stands behind that
-// script's first line.
+// Returns whether an engine with the first script's stream answers what follows that script's first
+// line.
 fn is_answered_over(alloc: Global) -> Result<bool, AllocError> {
     let mut columns = Vec::new(alloc);
     columns.push(String::from_str(alloc, "a")?)?;
@@ -425,8 +427,8 @@ fn is_answered_over(alloc: Global) -> Result<bool, AllocError> {
     )
 }
 
-// Whether the first script, answered line by line over an engine of its own, gives its replies, and
-// the engine has its query.
+// Answers the first script line by line over an engine of its own. Returns whether that gives its
+// replies, and the engine has its query.
 fn is_answered_by_lines(alloc: Global) -> bool {
     let Ok(mut engine) = Plain::new(alloc) else {
         return false;
@@ -444,7 +446,7 @@ fn a_script_is_answered_over_the_engine_that_it_is_given(rt: HostRuntime) {
     assert!(rt; is_answered_by_lines(rt.alloc()));
 }
 
-// Whether wrong words leave the source alone and are told of.
+// Returns whether wrong words leave the source as it is, and something is said of them.
 fn wrong_words_read_nothing<R: Threads + Wait + Sync>(rt: &R, alloc: Global) -> bool {
     let words = ["cqlrun", "--plane"];
     let mut source = MemorySource::new(FIRST.as_bytes());

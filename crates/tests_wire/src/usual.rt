@@ -1,4 +1,4 @@
-//! Lines at the border of those that are read by a scan: each is read as JSON reads it.
+//! Tests lines at the border of those that are read by a scan: each is read as JSON reads it.
 use std::alloc::{AllocError, Global};
 use std::test::Fail;
 use wire::{Request, WireFault, read_request};
@@ -39,7 +39,7 @@ fn are_read_alike(one: &Result<Request, WireFault>, other: &Result<Request, Wire
     }
 }
 
-// Whether a line is read as it is behind a blank, where no scan reads it.
+// Returns whether a line is read as it is after a blank, where no scan reads it.
 fn is_read_as_json(alloc: Global, line: &[u8]) -> Result<bool, AllocError> {
     let mut behind_blank = Vec::from_slice(alloc, b" ".as_slice())?;
     behind_blank.extend_from_slice(line)?;
@@ -47,7 +47,7 @@ fn is_read_as_json(alloc: Global, line: &[u8]) -> Result<bool, AllocError> {
     Ok(are_read_alike(&read_request(alloc, line), &as_json))
 }
 
-// The lines are appends to a stream `S`, of which the rows alone are written here.
+// Holds the rows of appends to a stream `S`; only the rows are written here.
 const ROWS: [&str; 32] = [
     "[[1,2]]",
     "[[0]]",
@@ -149,7 +149,7 @@ fn a_line_that_is_cut_is_no_json(rt: HostRuntime) {
     assert!(rt; each_cut_is_no_json(rt.alloc(), LONG.as_bytes()));
 }
 
-// Whether a line is an append to `S` of these instants and values.
+// Returns whether a line is an append to `S` of these instants and values.
 fn appends(alloc: Global, line: &str, instants: &[i64], values: &[Option<i64>]) -> bool {
     match read_request(alloc, line.as_bytes()) {
         Ok(Request::Append { stream, rows }) => {

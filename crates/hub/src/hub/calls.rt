@@ -21,6 +21,8 @@ impl Hub {
     /// # Errors
     /// `HistoryFull`, then `Foreign`, then those of `Answering::stream`. After any of them nothing
     /// has changed.
+    ///
+    /// Example: `a_hub_answers_two_seats` in crates/uses/src/hubs.rt.
     pub fn stream<R: Wait>(
         &self,
         rt: &R,
@@ -44,6 +46,8 @@ impl Hub {
     /// # Errors
     /// `HistoryFull`, then `Foreign`, then those of `Answering::query`. After any of them nothing
     /// has changed.
+    ///
+    /// Example: `a_hub_answers_two_seats` in crates/uses/src/hubs.rt.
     pub fn query<R: Wait>(
         &self,
         rt: &R,
@@ -67,6 +71,8 @@ impl Hub {
     /// # Errors
     /// `HistoryFull`, then `Foreign`, then those of `Answering::append`. After any of them nothing
     /// has changed.
+    ///
+    /// Example: `a_hub_answers_two_seats` in crates/uses/src/hubs.rt.
     pub fn append<R: Wait>(
         &self,
         rt: &R,
@@ -87,6 +93,8 @@ impl Hub {
     /// # Errors
     /// `HistoryFull`, then `Foreign`, then those of `Answering::heartbeat`. After any of them
     /// nothing has changed.
+    ///
+    /// Example: `a_hub_answers_two_seats` in crates/uses/src/hubs.rt.
     pub fn heartbeat<R: Wait>(
         &self,
         rt: &R,
@@ -112,6 +120,8 @@ impl Hub {
     /// # Errors
     /// `HistoryFull`, then `Foreign`, then those of `Answering::take`. After any of them nothing
     /// has changed.
+    ///
+    /// Example: `a_hub_answers_two_seats` in crates/uses/src/hubs.rt.
     pub fn take<R: Wait>(
         &self,
         rt: &R,
@@ -132,6 +142,8 @@ impl Hub {
     /// # Errors
     /// `HistoryFull`, then `Foreign`, then `UnknownQuery`. `OutOfMemory` when out of memory for the
     /// entry and the receipt. After any of them nothing has changed.
+    ///
+    /// Example: `a_query_of_a_hub_is_dropped` in crates/uses/src/hubs.rt.
     pub fn drop_query<R: Wait>(&self, rt: &R, seat: &mut Seat, query: u64) -> Result<Receipt, Fault>
         ensures ok { IfOk result (λ r. (r.entry.reply ≡ replies.Done)
             × Took seat.old (Drop query) r seat.new) }

@@ -49,8 +49,7 @@ pub struct Closed {
     pub entries: Vec<Entry>,
     /// Counts the calls that were compared before, when a seat settled.
     pub settled: u64,
-    /// Counts the calls, of all, of which only the numbers were compared: their entries had been
-    /// forgotten.
+    /// Counts the calls, of all, whose entries had been forgotten: their numbers were compared.
     pub by_number: u64,
 }
 

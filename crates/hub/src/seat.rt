@@ -8,8 +8,8 @@ use histories::Receipt;
 use std::alloc::Global;
 use std::marker::Model;
 
-/// Is a client's place at a hub. It knows which of its own calls are settled, and holds the receipts
-/// of the others. It also knows how far it has learnt of those of other seats.
+/// Is a client's place at a hub. It knows which of its own calls are settled, and holds receipts of
+/// the others. It also knows how far it has learnt of those of other seats.
 #[derive(Drop)]
 pub struct Seat {
     /// Holds its number at the hub.

@@ -3,7 +3,6 @@ ghost use Rattle.std.specs.Prelude.{◌≡◌, ◌≤◌, ◌⊎◌, OnErr};
 ghost use Rattle.hub.specs.declared.locked.TheConstants.{MAX_SEATS};
 ghost use Rattle.served.specs.Errors.{IsTold, IsToldAddress, accept_line, close_line};
 ghost use Rattle.served.specs.Errors.{memory_line, thread_line};
-ghost use Rattle.served.specs.Serving.{Keeps};
 
 use crate::door::Door;
 use crate::lines::serve_connection;
@@ -143,7 +142,8 @@ fn run_threads<R: Threads + Wait + Sync>(
 }
 
 // Serves connections until there are no more, and returns the seat. A device that fails, or a
-// connection that cannot be set up, ends only that connection.
+// connection that cannot be set up, ends only that connection. After each, the seat settles: its
+// receipts are compared with the history and let go. Those that differ stay for `close`.
 fn client<R: Threads + Wait + Sync>(
     rt: &R,
     alloc: Global,
@@ -151,7 +151,7 @@ fn client<R: Threads + Wait + Sync>(
     hub: &Hub,
     mut seat: Seat,
 ) -> Seat
-    ensures { Keeps seat result }
+    ensures { result.number ≡ seat.number }
 {
     for _ in rt.forever() {
         let mut held = door.lock(rt);
@@ -167,6 +167,7 @@ fn client<R: Threads + Wait + Sync>(
         let mut source = ReaderSource::new(&stream);
         let mut sink = WriterSink::new(&stream);
         let _ = serve_connection(rt, alloc, &mut source, &mut sink, hub, &mut seat, ROWS);
+        let _ = hub.settle(rt, &mut seat);
     }
     seat
 }

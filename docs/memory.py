@@ -1,5 +1,6 @@
 #!/usr/bin/env python3
-"""Draws memory.svg: the rows of a stream on a time line, what two queries need of them, and what is kept.
+"""Draws memory.svg: the rows of a stream on a time line, what two queries need of them, and what
+is kept.
 
 Run it as `python3 docs/memory.py`. It writes the picture beside itself,
 from the rows, windows and marks below.

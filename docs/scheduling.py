@@ -32,7 +32,8 @@ def lower_envelope(points):
     """From the first point each time to a later point of steepest descent."""
     envelope, place = [points[0]], 0
     while place + 1 < len(points):
-        place = max(range(place + 1, len(points)), key=lambda i: (descent(points[place], points[i]), i))
+        later = range(place + 1, len(points))
+        place = max(later, key=lambda i: (descent(points[place], points[i]), i))
         envelope.append(points[place])
     return envelope
 
@@ -64,36 +65,42 @@ def picture(points, envelope):
         return f'<polyline points="{places}" fill="none" stroke="{color}" {extra}/>'
 
     out = [
-        f'<svg xmlns="http://www.w3.org/2000/svg" viewBox="0 0 {WIDTH} {HEIGHT}" width="{WIDTH}" height="{HEIGHT}" '
+        f'<svg xmlns="http://www.w3.org/2000/svg" viewBox="0 0 {WIDTH} {HEIGHT}" '
+        f'width="{WIDTH}" height="{HEIGHT}" '
         'font-family="sans-serif" font-size="13">',
         "<title>A chart, its lower envelope, and the slopes of three operators</title>",
         f'<rect width="{WIDTH}" height="{HEIGHT}" fill="white"/>',
     ]
     for size in range(0, FULL_SIZE + 1, FULL_SIZE // 5):
-        out.append(f'<line x1="{x(0):.1f}" y1="{y(size):.1f}" x2="{x(last):.1f}" y2="{y(size):.1f}" stroke="{PALE}"/>')
+        out.append(f'<line x1="{x(0):.1f}" y1="{y(size):.1f}" x2="{x(last):.1f}" '
+                   f'y2="{y(size):.1f}" stroke="{PALE}"/>')
         out.append(text(x(0) - 10, y(size) + 4, f"{size:,}", "end"))
     for time, _ in points:
-        out.append(f'<line x1="{x(time):.1f}" y1="{y(FULL_SIZE):.1f}" x2="{x(time):.1f}" y2="{y(0):.1f}" stroke="{PALE}"/>')
+        out.append(f'<line x1="{x(time):.1f}" y1="{y(FULL_SIZE):.1f}" x2="{x(time):.1f}" '
+                   f'y2="{y(0):.1f}" stroke="{PALE}"/>')
         out.append(text(x(time), y(0) + 18, str(time)))
     for (name, _, _), earlier, later in zip(OPERATORS, points, points[1:]):
         middle = (x(earlier[0]) + x(later[0])) / 2
         slope = slope_over(envelope, later[0])
         out.append(text(middle, y(0) + 36, name, weight="bold"))
-        out.append(text(middle, y(0) + 54, f"slope {slope.numerator}/{slope.denominator}", color=ENVELOPE))
+        of_it = f"slope {slope.numerator}/{slope.denominator}"
+        out.append(text(middle, y(0) + 54, of_it, color=ENVELOPE))
     out.append(text(x(last) + 14, y(0) + 18, "time, in units of cost", "start"))
     out.append(text(20, y(FULL_SIZE) - 40, "size, in millionths", "start"))
     out.append(line(points, CHART, 'stroke-width="1.5" stroke-dasharray="5 4"'))
     out.append(line(envelope, ENVELOPE, 'stroke-width="3"'))
     for time, size in points:
         on_it = (time, size) in envelope
-        out.append(f'<circle cx="{x(time):.1f}" cy="{y(size):.1f}" r="5" fill="{ENVELOPE if on_it else "white"}" '
+        fill = ENVELOPE if on_it else "white"
+        out.append(f'<circle cx="{x(time):.1f}" cy="{y(size):.1f}" r="5" fill="{fill}" '
                    f'stroke="{ENVELOPE if on_it else CHART}" stroke-width="2"/>')
         out.append(text(x(time) + 10, y(size) - 9, f"({time}, {size})", "start"))
     for words, color, extra, at_y in [
         ("lower envelope", ENVELOPE, 'stroke-width="3"', TOP + 44),
         ("chart", CHART, 'stroke-width="1.5" stroke-dasharray="5 4"', TOP + 66),
     ]:
-        out.append(f'<line x1="{WIDTH - 160}" y1="{at_y - 4}" x2="{WIDTH - 124}" y2="{at_y - 4}" stroke="{color}" {extra}/>')
+        out.append(f'<line x1="{WIDTH - 160}" y1="{at_y - 4}" x2="{WIDTH - 124}" '
+                   f'y2="{at_y - 4}" stroke="{color}" {extra}/>')
         out.append(text(WIDTH - 116, at_y, words, "start"))
     return out + ["</svg>"]
 

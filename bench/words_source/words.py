@@ -14,8 +14,8 @@ CODE = re.compile(r"`[^`]+`")
 # where a sentence ends: a stop, then a capital, a digit, code, a bracket or emphasis
 STOP = re.compile(r"(?<=[.!?])[*_)\"”]*\s+(?=[*_(\"“]*[A-Z0-9`\[§])")
 SHORT = re.compile(r"\b(e\.g|i\.e|etc|vs|cf|al|No|St)\.$")
-# a text of an example cannot be broken, and `rt fmt` joins an attribute
-WIDE_TEXT = re.compile(r'"[^"]{90,}"|^ *#\[tactic\(')
+# a text or a request of an example cannot be broken, and `rt fmt` joins an attribute
+WIDE_TEXT = re.compile(r'"[^"]{90,}"|^ *#\[tactic\(|^\{"op"')
 # (a program of bench/ that is proved before it is run is a .txt: rt leaves it alone)
 CODE_KINDS = (".rt", ".antt", ".py", ".rs", ".c", ".txt", "")
 STATEMENT = re.compile(r"≡|→ \(|^(pub )?(record|abbrev|unfoldable) |^pub fn .*\n\s+ensures", re.M)

@@ -10,6 +10,6 @@ mod reply;
 
 pub use command::{Command, CommandKind};
 pub use entry::Entry;
-pub use history::agrees;
+pub use history::are_of;
 pub use receipt::Receipt;
 pub use reply::{Reply, ReplyKind};

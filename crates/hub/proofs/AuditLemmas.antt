@@ -1,107 +1,281 @@
--- What the tests of the audit say together: the numbers of entries that are there follow from the seats' own entries.
-use Rattle.std.proofs.Common.{◌≡◌, ◌≢◌, inl, inr, ℕ, ◌+◌, ◌≤◌, ◌<◌, List, [], ◌∷◌, Bool, true, false, cond, ◌==◌, All, count_by, length, refl, sym, ap, ◌∙◌, arith}
-use Rattle.std.proofs.lemmas.Bool.{cases_lt, cond-false, cond-true}
+-- What the seats tell together, where each agrees with the hub.
+use Rattle.std.proofs.Common.{◌-◌, nat_lt, ◌≡◌, ◌∙◌, inl, inr, ℕ, zero, suc, ◌+◌, ◌≤◌, ◌<◌, List, [], ◌∷◌, Bool, true, false, cond, ◌==◌, All, count_by, Some, slice_get, length, max, refl, sym, ap, arith}
+use Rattle.std.specs.List.{sum_by}
+use Rattle.std.proofs.lemmas.Bool.{cond-false, cond-true}
 use Rattle.std.proofs.lemmas.Bool.Decides.{eqb_tells, nat_tests}
-use Rattle.std.proofs.lemmas.List.Elements.{All-head, All-tail}
-use Rattle.std.proofs.lemmas.List.Sums.{sum_by-cons}
+use Rattle.std.proofs.lemmas.List.{length-map}
+use Rattle.std.proofs.lemmas.List.Elements.{All-cons, All-head, All-nil, All-tail}
+use Rattle.std.proofs.lemmas.List.Sums.{count_by-le-length, sum_by-cons}
 use Rattle.histories.specs.Histories.{Entry, Told, own}
-use Rattle.hub.specs.Seats.{IsAudited, PlainSeat, receipts_from, times_told, told_at}
-use Rattle.hub.proofs.PlaceLemmas.{from_same, one_if}
+use Rattle.hub.specs.Audits.{IsAccounted, alone}
+use Rattle.hub.specs.Ledgers.{Agrees, IsLedger, PlainAccount, PlainLedger, due_at, numbers_of, times_due}
+use Rattle.hub.specs.Seats.{IsAudited, PlainSeat, count_below, held, receipts_from, times_told, told_at, unsettled}
+use Rattle.hub.specs.declared.settled.Settled.{Settled}
+use Rattle.hub.proofs.PlaceLemmas.{one_if, told_below_more, below_nought}
+use Rattle.hub.proofs.Places.{told_below}
+use Rattle.hub.proofs.SettleLemmas.{from_begins_with}
 
--- how many receipts of a number the entries make, at all seats together
-abbrev made : ℕ → ℕ → List Entry → List PlainSeat → ℕ
-made k n es [] = 0
-made k n es (s ∷ ss) = told_at k (own s.number n es) + made k n es ss
+-- ---- one term for each account, and one for each seat
 
-own_by : (b : Bool) (k : ℕ) (r : Told) (rs : List Told) → told_at k (cond b (r ∷ rs) rs) ≡ cond b (one_if (r.number == k)) 0 + told_at k rs
-own_by true k r rs = refl
-own_by false k r rs = omega arith
+-- the term of the account of this number, where the first account has the number j
+abbrev look : (PlainAccount → ℕ) → ℕ → List PlainAccount → ℕ → ℕ
+look F j [] k = 0
+look F j (a ∷ more) k = cond (k == j) (F a) 0 + look F (j + 1) more k
 
-own_at : (k n : ℕ) (e : Entry) (es : List Entry) (s : ℕ) → told_at k (own s n (e ∷ es)) ≡ cond (e.seat == s) (one_if (n == k)) 0 + told_at k (own s (n + 1) es)
-own_at k n e es s = own_by (e.seat == s) k (record { number = n; entry = e }) (own s (n + 1) es)
+abbrev looks : (PlainAccount → ℕ) → ℕ → List PlainAccount → List PlainSeat → ℕ
+looks F j accounts [] = 0
+looks F j accounts (s ∷ ss) = look F j accounts s.number + looks F j accounts ss
 
-flat : (b c : Bool) → c ≡ false → cond b (one_if c) 0 ≡ 0
-flat true c h = cond-false c 1 0 h
-flat false c h = refl
+abbrev many_of : ℕ → List PlainSeat → ℕ
+many_of k ss = count_by (λ (s : PlainSeat). s.number == k) ss
 
-only : (b c : Bool) → c ≡ true → cond b (one_if c) 0 ≡ one_if b
-only true c h = cond-true c 1 0 h
-only false c h = refl
+many_more : (k : ℕ) (s : PlainSeat) (ss : List PlainSeat) → many_of k (s ∷ ss) ≡ one_if (s.number == k) + many_of k ss
+many_more k s ss = sum_by-cons (λ (s : PlainSeat). one_if (s.number == k)) s ss
 
--- an entry of another number
-made_other : (k n : ℕ) (e : Entry) (es : List Entry) (ss : List PlainSeat) → (n == k) ≡ false → made k n (e ∷ es) ss ≡ made k (n + 1) es ss
-made_other k n e es [] differs = refl
-made_other k n e es (s ∷ ss) differs = omega (arith, own_at k n e es s.number, flat (e.seat == s.number) (n == k) differs, made_other k n e es ss differs)
+looks_none : (F : PlainAccount → ℕ) (j : ℕ) (ss : List PlainSeat) → looks F j [] ss ≡ 0
+looks_none F j [] = refl
+looks_none F j (s ∷ ss) = omega (arith, looks_none F j ss)
 
-flipped : (a b : ℕ) → (a == b) ≡ (b == a)
-flipped a b =
-    elim (eqb_tells a b) [
-      | inl h ↦ (let o : (b == a) ≡ true = (let is : b ≡ a = sym h.1 in grind (arith, nat_tests)) in h.0 ∙ sym o)
-      | inr h ↦ (let o : (b == a) ≡ false = (let differs : a ≢ b = h.1 in grind (arith, nat_tests)) in h.0 ∙ sym o)
-    ]
+module _ (F : PlainAccount → ℕ) (j : ℕ) (a : PlainAccount) (more : List PlainAccount) where
+  at_no : (b : Bool) → b ≡ false → cond b (F a) 0 ≡ 0
+  at_no b h = cond-false b (F a) 0 h
 
--- the entry of this number
-made_it : (k n : ℕ) (e : Entry) (es : List Entry) (ss : List PlainSeat) → (n == k) ≡ true → made k n (e ∷ es) ss ≡ count_by (λ (s : PlainSeat). s.number == e.seat) ss + made k (n + 1) es ss
-made_it k n e es [] same_number = refl
-made_it k n e es (s ∷ ss) same_number =
-    let one : one_if (e.seat == s.number) ≡ one_if (s.number == e.seat) = ap (λ b. one_if b) (flipped e.seat s.number) in
-    let more : count_by (λ (s : PlainSeat). s.number == e.seat) (s ∷ ss) ≡ one_if (s.number == e.seat) + count_by (λ (s : PlainSeat). s.number == e.seat) ss = sum_by-cons (λ (s : PlainSeat). one_if (s.number == e.seat)) s ss in
-    omega (arith, own_at k n e es s.number, only (e.seat == s.number) (n == k) same_number, one, more, made_it k n e es ss same_number)
+  at_yes : (b : Bool) → b ≡ true → cond b (F a) 0 ≡ F a
+  at_yes b h = cond-true b (F a) 0 h
 
-made_nothing : (k n : ℕ) (ss : List PlainSeat) → made k n [] ss ≡ 0
-made_nothing k n [] = refl
-made_nothing k n (s ∷ ss) = omega (arith, made_nothing k n ss)
+  one_no : (b : Bool) → b ≡ false → one_if b ≡ 0
+  one_no b h = cond-false b 1 0 h
 
-not_before : (k n : ℕ) (es : List Entry) (ss : List PlainSeat) → k < n → made k n es ss ≡ 0
-not_before k n [] ss lt = made_nothing k n ss
-not_before k n (e ∷ es) ss lt =
-    let other : (n == k) ≡ false = grind (arith, nat_tests) in
-    made_other k n e es ss other ∙ not_before k (n + 1) es ss (omega (arith, lt))
+  one_yes : (b : Bool) → b ≡ true → one_if b ≡ 1
+  one_yes b h = cond-true b 1 0 h
 
-not_behind : (k n : ℕ) (es : List Entry) (ss : List PlainSeat) → n + length es ≤ k → made k n es ss ≡ 0
-not_behind k n [] ss le = made_nothing k n ss
-not_behind k n (e ∷ es) ss le =
-    let lt : n < k = omega (arith, le) in
-    let other : (n == k) ≡ false = grind (arith, nat_tests) in
-    made_other k n e es ss other ∙ not_behind k (n + 1) es ss (omega (arith, le))
-
-module _ (ss : List PlainSeat) (count : ℕ) (each : (k : ℕ) → k < count → count_by (λ (s : PlainSeat). s.number == k) ss ≡ 1) where
-  made_once : (k n : ℕ) (es : List Entry) → All (λ (e : Entry). e.seat < count) es → n ≤ k → k < n + length es → made k n es ss ≡ 1
-  made_once k n [] known le lt = absurd (omega (arith, le, lt))
-  made_once k n (e ∷ es) known le lt =
-      elim (eqb_tells n k) [
-        | inl h ↦ omega (arith, made_it k n e es ss h.0, each e.seat (All-head (λ (e : Entry). e.seat < count) e es known), not_before k (n + 1) es ss (omega (arith, h.1)))
-        | inr h ↦
-            let differs : n ≢ k = h.1 in
-            made_other k n e es ss h.0
-            ∙ made_once k (n + 1) es (All-tail (λ (e : Entry). e.seat < count) e es known)
-            (elim (cases_lt n k) [ inl a ↦ omega (arith, a) | inr b ↦ absurd (differs (omega (arith, b, le))) ])
-            (omega (arith, lt))
+  looks_not : (ss : List PlainSeat) → many_of j ss ≡ 0 → looks F j (a ∷ more) ss ≡ looks F (j + 1) more ss
+  looks_not [] h = refl
+  looks_not (s ∷ ss) h =
+      elim (eqb_tells s.number j) [
+        | inl y ↦ absurd (omega (arith, h, many_more j s ss, one_yes (s.number == j) y.0))
+        | inr n ↦ omega (arith, at_no (s.number == j) n.0, looks_not ss (omega (arith, h, many_more j s ss)))
       ]
 
--- from the first entry on the seats are told of just what the entries make
-linked : (first k : ℕ) (entries : List Entry) (ss : List PlainSeat) → first ≤ k
-    → All (λ (s : PlainSeat). own s.number first entries ≡ receipts_from first s.receipts) ss → made k first entries ss ≡ times_told k ss
-linked first k entries [] le told = refl
-linked first k entries (s ∷ ss) le told =
-    let here = All-head (λ (s : PlainSeat). own s.number first entries ≡ receipts_from first s.receipts) s ss told in
-    let one : told_at k (own s.number first entries) ≡ told_at k s.receipts = ap (told_at k) here ∙ from_same first k s.receipts le in
-    omega (arith, one, linked first k entries ss le (All-tail (λ (s : PlainSeat). own s.number first entries ≡ receipts_from first s.receipts) s ss told))
+  looks_once : (ss : List PlainSeat) → many_of j ss ≡ 1 → looks F j (a ∷ more) ss ≡ F a + looks F (j + 1) more ss
+  looks_once [] h = absurd (cc)
+  looks_once (s ∷ ss) h =
+      elim (eqb_tells s.number j) [
+        | inl y ↦ omega (arith, at_yes (s.number == j) y.0, looks_not ss (omega (arith, h, many_more j s ss, one_yes (s.number == j) y.0)))
+        | inr n ↦ omega (arith, at_no (s.number == j) n.0, looks_once ss (omega (arith, h, many_more j s ss, one_no (s.number == j) n.0)))
+      ]
 
-module _ (ss : List PlainSeat) (count first : ℕ) (entries : List Entry) where
-  pub audited : length ss ≡ count → ((k : ℕ) → k < count → count_by (λ (s : PlainSeat). s.number == k) ss ≡ 1) → All (λ (e : Entry). e.seat < count) entries
-      → All (λ (s : PlainSeat). own s.number first entries ≡ receipts_from first s.receipts) ss → ((n : ℕ) → n < first → times_told n ss ≡ 1) → IsAudited ss count first entries
-  audited many each known told before = record {
+-- each seat is there once: the terms of the seats are those of the accounts
+whole : (F : PlainAccount → ℕ) (j : ℕ) (accounts : List PlainAccount) (ss : List PlainSeat) → ((k : ℕ) → j ≤ k → k < j + length accounts → many_of k ss ≡ 1) → looks F j accounts ss ≡ sum_by F accounts
+whole F j [] ss each = looks_none F j ss
+whole F j (a ∷ more) ss each =
+    let one = looks_once F j a more ss (each j (omega arith) (omega arith)) in
+    let rest = whole F (j + 1) more ss (λ k le lt. each k (omega (arith, le)) (omega (arith, lt))) in
+    omega (arith, one, rest, sum_by-cons F a more)
+
+look_below : (F : PlainAccount → ℕ) (j k : ℕ) (accounts : List PlainAccount) → k < j → look F j accounts k ≡ 0
+look_below F j k [] lt = refl
+look_below F j k (a ∷ more) lt =
+    let other : (k == j) ≡ false = grind (arith, nat_tests) in
+    omega (arith, at_no F j a more (k == j) other, look_below F (j + 1) k more (omega (arith, lt)))
+
+look_at : (F : PlainAccount → ℕ) (j i k : ℕ) (accounts : List PlainAccount) (a : PlainAccount) → k ≡ j + i → slice_get accounts i ≡ Some a → look F j accounts k ≡ F a
+look_at F j i k [] a is at = absurd (cc)
+look_at F j zero k (b ∷ more) a is at =
+    let same : (k == j) ≡ true = grind (arith, nat_tests) in
+    let there : b ≡ a = cc in
+    omega (arith, at_yes F j b more (k == j) same, look_below F (j + 1) k more (omega (arith, is)), ap F there)
+look_at F j (suc i) k (b ∷ more) a is at =
+    let other : (k == j) ≡ false = grind (arith, nat_tests) in
+    omega (arith, at_no F j b more (k == j) other, look_at F (j + 1) i k more a (omega (arith, is)) at)
+
+summed : (F : PlainAccount → ℕ) (G : PlainSeat → ℕ) (accounts : List PlainAccount) (ss : List PlainSeat) → All (λ (s : PlainSeat). G s ≡ look F 0 accounts s.number) ss → sum_by G ss ≡ looks F 0 accounts ss
+summed F G accounts [] h = refl
+summed F G accounts (s ∷ ss) h =
+    omega (arith, sum_by-cons G s ss, All-head (λ (s : PlainSeat). G s ≡ look F 0 accounts s.number) s ss h, summed F G accounts ss (All-tail (λ (s : PlainSeat). G s ≡ look F 0 accounts s.number) s ss h))
+
+-- ---- the terms that are of interest
+
+abbrev account_of : PlainSeat → PlainAccount
+account_of s = record { settled = s.settled; due = numbers_of s.receipts }
+
+each_term : (l : PlainLedger) (first : ℕ) (es : List Entry) (F : PlainAccount → ℕ) (G : PlainSeat → ℕ) → ((s : PlainSeat) → G s ≡ F (account_of s)) → (ss : List PlainSeat) → All (Agrees l first es) ss
+    → All (λ (s : PlainSeat). G s ≡ look F 0 l.accounts s.number) ss
+each_term l first es F G same [] h = All-nil (λ (s : PlainSeat). G s ≡ look F 0 l.accounts s.number)
+each_term l first es F G same (s ∷ ss) h =
+    let here = All-head (Agrees l first es) s ss h in
+    All-cons (λ (s : PlainSeat). G s ≡ look F 0 l.accounts s.number) s ss (same s ∙ sym (look_at F 0 s.number s.number l.accounts (account_of s) (omega arith) here.account)) (each_term l first es F G same ss (All-tail (Agrees l first es) s ss h))
+
+pub as_one : (l : PlainLedger) (first : ℕ) (es : List Entry) (F : PlainAccount → ℕ) (G : PlainSeat → ℕ) → ((s : PlainSeat) → G s ≡ F (account_of s)) → (ss : List PlainSeat)
+    → ((k : ℕ) → k < length l.accounts → many_of k ss ≡ 1) → All (Agrees l first es) ss → sum_by G ss ≡ sum_by F l.accounts
+as_one l first es F G same ss each h = summed F G l.accounts ss (each_term l first es F G same ss h) ∙ whole F 0 l.accounts ss (λ k le lt. each k (omega (arith, lt)))
+
+pub told_due : (n : ℕ) (rs : List Told) → told_at n rs ≡ due_at n (numbers_of rs)
+told_due n [] = refl
+told_due n (r ∷ rs) = ap (λ t. one_if (r.number == n) + t) (told_due n rs)
+
+times_sum : (n : ℕ) (ss : List PlainSeat) → times_told n ss ≡ sum_by (λ (s : PlainSeat). told_at n s.receipts) ss
+times_sum n [] = refl
+times_sum n (s ∷ ss) = omega (arith, times_sum n ss, sum_by-cons (λ (s : PlainSeat). told_at n s.receipts) s ss)
+
+pub sum_both : {X : Type 0} (f g : X → ℕ) (xs : List X) → sum_by (λ x. f x + g x) xs ≡ sum_by f xs + sum_by g xs
+sum_both f g [] = refl
+sum_both f g (x ∷ xs) = omega (arith, sum_both f g xs, sum_by-cons f x xs, sum_by-cons g x xs, sum_by-cons (λ x. f x + g x) x xs)
+
+module _ (l : PlainLedger) (first : ℕ) (es : List Entry) (ledger : IsLedger l first es) (ss : List PlainSeat) (each : (k : ℕ) → k < length l.accounts → many_of k ss ≡ 1) (agree : All (Agrees l first es) ss) where
+  pub told_as_due : (n : ℕ) → times_told n ss ≡ times_due n l.accounts
+  told_as_due n = times_sum n ss ∙ as_one l first es (λ (a : PlainAccount). due_at n a.due) (λ (s : PlainSeat). told_at n s.receipts) (λ s. told_due n s.receipts) ss each agree
+
+  pub all_told : sum_by (λ (s : PlainSeat). s.settled.count + length s.receipts) ss + l.strangers ≡ first + length es
+  all_told =
+      let same = as_one l first es (λ (a : PlainAccount). a.settled.count + length a.due) (λ (s : PlainSeat). s.settled.count + length s.receipts) (λ s. ap (λ n. s.settled.count + n) (sym (length-map s.receipts (λ (r : Told). r.number)))) ss each agree in
+      let both = sum_both (λ (a : PlainAccount). a.settled.count) (λ (a : PlainAccount). length a.due) l.accounts in
+      omega (arith, same, both, ledger.settled, ledger.total)
+
+  pub all_settled : sum_by (λ (s : PlainSeat). s.settled.count) ss ≡ l.settled
+  all_settled = as_one l first es (λ (a : PlainAccount). a.settled.count) (λ (s : PlainSeat). s.settled.count) (λ s. refl) ss each agree ∙ ledger.settled
+
+  pub accounted : (count : ℕ) → length l.accounts ≡ count → length ss ≡ count → ((k : ℕ) → k < count → many_of k ss ≡ 1) → All (λ (e : Entry). e.seat < count) es → l.strangers ≡ 0 → IsAccounted l ss count first es
+  accounted count is many known_each known none = record {
     many = many;
-    each = each;
+    each = known_each;
     known = known;
-    told = told;
-    once = λ n lt. elim (cases_lt n first) [
-      | inl a ↦ before n a
-      | inr b ↦ sym (linked first n entries ss b told) ∙ made_once ss count each n first entries known b lt
-    ];
-    others = λ n le. sym (linked first n entries ss (omega (arith, le)) told) ∙ not_behind n first entries ss le;
+    agree = agree;
+    once = λ n. omega (arith, told_as_due n, ledger.once n);
+    others = λ n le. told_as_due n ∙ ledger.others n le;
+    total = omega (arith, all_told, none);
   }
 
-  pub before_first : IsAudited ss count first entries → (n : ℕ) → n < first → times_told n ss ≡ 1
-  before_first a n lt = a.once n (omega (arith, lt))
+-- a hub that accepted a stranger's call is not accounted for
+pub estranged_not : (l : PlainLedger) (first : ℕ) (es : List Entry) (ss : List PlainSeat) (count : ℕ) → IsLedger l first es → length l.accounts ≡ count → IsAccounted l ss count first es → l.strangers ≡ 0
+estranged_not l first es ss count ledger is a =
+    let each : (k : ℕ) → k < length l.accounts → many_of k ss ≡ 1 = λ k lt. a.each k (omega (arith, lt, is)) in
+    omega (arith, all_told l first es ledger ss each a.agree, a.total)
+
+counts_few : (first : ℕ) (ss : List PlainSeat) → sum_by (λ (s : PlainSeat). count_below first s.receipts) ss + sum_by (λ (s : PlainSeat). s.settled.count) ss ≤ sum_by (λ (s : PlainSeat). s.settled.count + length s.receipts) ss
+counts_few first [] = omega arith
+counts_few first (s ∷ ss) =
+    omega (
+      arith,
+      sum_by-cons (λ (s : PlainSeat). count_below first s.receipts) s ss,
+      sum_by-cons (λ (s : PlainSeat). s.settled.count) s ss,
+      sum_by-cons (λ (s : PlainSeat). s.settled.count + length s.receipts) s ss,
+      count_by-le-length (λ (r : Told). nat_lt r.number first) s.receipts,
+      counts_few first ss,
+    )
+
+-- of a hub that is accounted for
+module _ (l : PlainLedger) (ss : List PlainSeat) (count first : ℕ) (es : List Entry) (ledger : IsLedger l first es) (is : length l.accounts ≡ count) (a : IsAccounted l ss count first es) where
+  each_here : (k : ℕ) → k < length l.accounts → many_of k ss ≡ 1
+  each_here k lt = a.each k (omega (arith, lt, is))
+
+  pub settled_by_all : l.settled ≡ sum_by (λ (s : PlainSeat). s.settled.count) ss
+  settled_by_all = sym (all_settled l first es ledger ss each_here a.agree)
+
+  pub alone_fits : l.by_number + sum_by (λ (s : PlainSeat). count_below first s.receipts) ss ≤ first + length es
+  alone_fits = omega (arith, ledger.by_number, settled_by_all, counts_few first ss, a.total)
+
+settled_is : (c c' u u' : ℕ) → c ≡ c' → u ≡ u' → (let s : Settled = record { count = c; until = u } in s) ≡ record { count = c'; until = u' }
+settled_is c c' u u' h t = rw (h, t) refl
+
+none_settled : (l : PlainLedger) (first : ℕ) (es : List Entry) → IsLedger l first es → (ss : List PlainSeat) → All (Agrees l first es) ss → sum_by (λ (s : PlainSeat). s.settled.count) ss ≡ 0 → All (λ (s : PlainSeat). s.settled ≡ unsettled) ss
+none_settled l first es ledger [] h t = All-nil (λ (s : PlainSeat). s.settled ≡ unsettled)
+none_settled l first es ledger (s ∷ ss) h t =
+    let split = sum_by-cons (λ (s : PlainSeat). s.settled.count) s ss in
+    let none : s.settled.count ≡ 0 = omega (arith, t, split) in
+    let account = ledger.each s.number (account_of s) (All-head (Agrees l first es) s ss h).account in
+    All-cons (λ (s : PlainSeat). s.settled ≡ unsettled) s ss (settled_is s.settled.count 0 s.settled.until 0 none (account.none none)) (none_settled l first es ledger ss (All-tail (Agrees l first es) s ss h) (omega (arith, t, split)))
+
+-- ---- where nothing was settled, each number is told once
+
+abbrev below_all : ℕ → List PlainSeat → ℕ
+below_all n [] = 0
+below_all n (s ∷ ss) = told_below n s.receipts + below_all n ss
+
+abbrev top : List PlainSeat → ℕ
+top [] = 0
+top (s ∷ ss) = max (held s.receipts) (top ss)
+
+abbrev sizes : List PlainSeat → ℕ
+sizes [] = 0
+sizes (s ∷ ss) = length s.receipts + sizes ss
+
+at_number : (a b : ℕ) (ss : List PlainSeat) → a ≡ b → below_all a ss ≡ below_all b ss
+at_number a b ss h = ap (λ (k : ℕ). below_all k ss) h
+
+next_below : (n : ℕ) (ss : List PlainSeat) → below_all (n + 1) ss ≡ below_all n ss + times_told n ss
+next_below n [] = refl
+next_below n (s ∷ ss) = omega (arith, next_below n ss, told_below_more n s.receipts)
+
+none_below_all : (ss : List PlainSeat) → below_all 0 ss ≡ 0
+none_below_all [] = refl
+none_below_all (s ∷ ss) = omega (arith, below_nought s.receipts, none_below_all ss)
+
+full_below : (n : ℕ) (rs : List Told) → held rs ≤ n → told_below n rs ≡ length rs
+full_below n [] h = refl
+full_below n (r ∷ rs) h =
+    let lt : r.number < n = omega (arith, h) in
+    let is : nat_lt r.number n ≡ true = grind (arith, nat_tests) in
+    cond-true (nat_lt r.number n) (suc (told_below n rs)) (told_below n rs) is ∙ ap suc (full_below n rs (omega (arith, h)))
+
+full_all : (n : ℕ) (ss : List PlainSeat) → top ss ≤ n → below_all n ss ≡ sizes ss
+full_all n [] h = refl
+full_all n (s ∷ ss) h = omega (arith, full_below n s.receipts (omega (arith, h)), full_all n ss (omega (arith, h)))
+
+module _ (ss : List PlainSeat) (total : ℕ) (once : (n : ℕ) → times_told n ss ≤ 1) (others : (n : ℕ) → total ≤ n → times_told n ss ≡ 0) where
+  no_more : (j : ℕ) → below_all (total + j) ss ≡ below_all total ss
+  no_more zero = at_number (total + zero) total ss (omega arith)
+  no_more (suc j) = omega (arith, at_number (total + suc j) (total + j + 1) ss (omega arith), next_below (total + j) ss, others (total + j) (omega arith), no_more j)
+
+  slow : (n j : ℕ) → below_all (n + j) ss ≤ below_all n ss + j
+  slow n zero = omega (arith, at_number (n + zero) n ss (omega arith))
+  slow n (suc j) = omega (arith, at_number (n + suc j) (n + j + 1) ss (omega arith), next_below (n + j) ss, once (n + j), slow n j)
+
+  few : (n : ℕ) → below_all n ss ≤ n
+  few n = omega (arith, at_number (0 + n) n ss (omega arith), slow 0 n, none_below_all ss)
+
+  reached_all : below_all total ss ≡ sizes ss
+  reached_all = sym (no_more (top ss)) ∙ full_all (total + top ss) ss (omega arith)
+
+  pub each_once : sizes ss ≡ total → (n j : ℕ) → total ≡ n + 1 + j → times_told n ss ≡ 1
+  each_once all n j is =
+      let at : below_all total ss ≡ below_all (n + 1 + j) ss = ap (λ k. below_all k ss) is in
+      omega (arith, at, slow (n + 1) j, next_below n ss, few n, once n, reached_all, all)
+
+sized : (ss : List PlainSeat) → All (λ (s : PlainSeat). s.settled ≡ unsettled) ss → sum_by (λ (s : PlainSeat). s.settled.count + length s.receipts) ss ≡ sizes ss
+sized [] h = refl
+sized (s ∷ ss) h =
+    let none : s.settled.count ≡ 0 = ap (λ x. x.count) (All-head (λ (s : PlainSeat). s.settled ≡ unsettled) s ss h) in
+    omega (arith, none, sum_by-cons (λ (s : PlainSeat). s.settled.count + length s.receipts) s ss, sized ss (All-tail (λ (s : PlainSeat). s.settled ≡ unsettled) s ss h))
+
+all_from_nought : (rs : List Told) → receipts_from 0 rs ≡ rs
+all_from_nought [] = refl
+all_from_nought (r ∷ rs) = from_begins_with 0 r rs (omega arith) ∙ ap (λ t. r ∷ t) (all_from_nought rs)
+
+told_whole : (l : PlainLedger) (first : ℕ) (es : List Entry) (ss : List PlainSeat) → All (λ (s : PlainSeat). s.settled ≡ unsettled) ss → All (Agrees l first es) ss → All (λ (s : PlainSeat). own s.number first es ≡ receipts_from first s.receipts) ss
+told_whole l first es [] h t = All-nil (λ (s : PlainSeat). own s.number first es ≡ receipts_from first s.receipts)
+told_whole l first es (s ∷ ss) h t =
+    let none : s.settled.until ≡ 0 = ap (λ x. x.until) (All-head (λ (s : PlainSeat). s.settled ≡ unsettled) s ss h) in
+    let here : own s.number first es ≡ receipts_from first s.receipts =
+    sym (all_from_nought (own s.number first es)) ∙ ap (λ n. receipts_from n (own s.number first es)) (sym none) ∙ (All-head (Agrees l first es) s ss t).told in
+    All-cons (λ (s : PlainSeat). own s.number first es ≡ receipts_from first s.receipts) s ss here (told_whole l first es ss (All-tail (λ (s : PlainSeat). s.settled ≡ unsettled) s ss h) (All-tail (Agrees l first es) s ss t))
+
+-- SEATS THAT NEVER SETTLED are audited as those of a hub in which nobody can
+pub unsettled_audited : (l : PlainLedger) (ss : List PlainSeat) (count first : ℕ) (es : List Entry) → IsAccounted l ss count first es → All (λ (s : PlainSeat). s.settled ≡ unsettled) ss → IsAudited ss count first es
+unsettled_audited l ss count first es a h = record {
+  many = a.many;
+  each = a.each;
+  known = a.known;
+  told = told_whole l first es ss h a.agree;
+  once = λ n lt. each_once ss (first + length es) a.once a.others (sym (sized ss h) ∙ a.total) n (first + length es - (n + 1)) (omega (arith, lt));
+  others = a.others;
+}
+
+-- and where the hub settled nothing
+pub audited_as_ever : (l : PlainLedger) (ss : List PlainSeat) (count first : ℕ) (es : List Entry) → IsLedger l first es → length l.accounts ≡ count → IsAccounted l ss count first es → l.settled ≡ 0 → IsAudited ss count first es
+audited_as_ever l ss count first es ledger is a none =
+    unsettled_audited l ss count first es a (none_settled l first es ledger ss a.agree (sym (settled_by_all l ss count first es ledger is a) ∙ none))
+
+-- what is counted, as the code passes through it
+pub alone_is : (r : ℕ) (l l' : PlainLedger) (xs ss : List PlainSeat) (f f' : ℕ) → r ≡ l.by_number + sum_by (λ (s : PlainSeat). count_below f s.receipts) xs → xs ≡ ss → l ≡ l' → f ≡ f' → r ≡ alone l' ss f'
+alone_is r l l' xs ss f f' is seats ledger first = is ∙ ap (λ x. l.by_number + sum_by (λ (s : PlainSeat). count_below f s.receipts) x) seats ∙ ap (λ x. alone x ss f) ledger ∙ ap (λ (k : ℕ). alone l' ss k) first

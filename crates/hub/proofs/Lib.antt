@@ -3,8 +3,13 @@ mod AnsweredLemmas
 mod DecliningLemmas
 mod ReplayLemmas
 mod ReachLemmas
+mod Places
 mod PlaceLemmas
+mod LedgerLemmas
+mod SettleLemmas
 mod AuditLemmas
+mod KeepingLemmas
+mod OpeningLemmas
 mod AcceptingLemmas
 mod KnownLemmas
 pub mod SendLemmas

@@ -6,7 +6,7 @@ use Rattle.std.proofs.lemmas.List.{append_assoc, drop_more, length-map, length-t
 use Rattle.std.proofs.Math.Seq.{get_or-append_seam}
 use Rattle.histories.specs.Histories.{Told}
 use Rattle.hub.specs.Seats.{IsRisingFrom, PlainSeat, held, receipts_from, times_told, told_at}
-use Rattle.hub.specs.Places.{places_at, told_below}
+use Rattle.hub.proofs.Places.{places_at, told_below}
 
 -- one where the test holds
 abbrev pub one_if : Bool → ℕ
@@ -194,7 +194,7 @@ pub times_more : (n : ℕ) (seats : List PlainSeat) (i : ℕ) (d : PlainSeat) �
 times_more n seats i d lt = ap (times_told n) (take_more seats i d lt) ∙ times_push n (take i seats) (get_or seats i d)
 
 -- at the beginning no place is passed over
-below_nought : (rs : List Told) → told_below 0 rs ≡ 0
+pub below_nought : (rs : List Told) → told_below 0 rs ≡ 0
 below_nought [] = refl
 below_nought (r ∷ rs) =
     let differs : nat_lt r.number 0 ≡ false = grind (arith, nat_tests) in

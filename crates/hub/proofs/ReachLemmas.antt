@@ -23,9 +23,17 @@ some_reaches (x ∷ rs) n h =
 pub reach_above : (s : PlainSeat) → All (λ (r : Told). r.number < reach s) s.receipts × (s.learnt ≤ reach s)
 reach_above s = (all_below s.receipts (reach s) (omega arith), omega arith)
 
-pub reached : (s : PlainSeat) (n : ℕ) → n < reach s → ((k : ℕ) × (r : Told) × (slice_get s.receipts k ≡ Some r) × (n ≤ r.number)) ⊎ (n < s.learnt)
+pub settled_below : (s : PlainSeat) → s.settled.until ≤ reach s
+settled_below s = omega arith
+
+pub reached : (s : PlainSeat) (n : ℕ) → n < reach s
+    → ((k : ℕ) × (r : Told) × (slice_get s.receipts k ≡ Some r) × (n ≤ r.number)) ⊎ ((n < s.learnt) ⊎ (n < s.settled.until))
 reached s n h =
     elim (cases_lt n s.learnt) [
-      | inl a ↦ inr a
-      | inr b ↦ inl (some_reaches s.receipts n (omega (arith, h, b)))
+      | inl a ↦ inr (inl a)
+      | inr b ↦
+          elim (cases_lt n s.settled.until) [
+            | inl a ↦ inr (inr a)
+            | inr d ↦ inl (some_reaches s.receipts n (omega (arith, h, b, d)))
+          ]
     ]

@@ -23,8 +23,8 @@ replays_next m n k es mid now e s c' r' c r is same is_entry same_command same_r
     let there : e ≡ record { seat = s; command = c; reply = r } = is_entry ∙ ap (λ x. record { seat = s; command = x; reply = r' }) same_command ∙ ap (λ x. record { seat = s; command = c; reply = x }) same_reply in
     subst (λ x. Replays m x k) (sym (is ∙ ap (λ x. x ++ e ∷ []) same ∙ ap (λ x. es ++ x ∷ []) there)) (Replays-push m n k es (record { seat = s; command = c; reply = r }) run step)
 
-pub held_next : (rs mid now : List Told) (r : Told) → now ≡ mid ++ r ∷ [] → mid ≡ rs → held rs ≤ r.number → held now ≡ r.number + 1
-held_next rs mid now r is same below = omega (arith, ap held is, ap held same, held-push mid r)
+pub held_next : (rs mid now : List Told) (r : Told) (u : ℕ) → now ≡ mid ++ r ∷ [] → mid ≡ rs → max u (held rs) ≤ r.number → max u (held now) ≡ r.number + 1
+held_next rs mid now r u is same below = omega (arith, below, ap held is, ap held same, held-push mid r)
 
 pub rising_next : (rs mid now : List Told) (r : Told) → now ≡ mid ++ r ∷ [] → mid ≡ rs → held rs ≤ r.number → IsRisingFrom 0 rs → IsRisingFrom 0 now
 rising_next rs mid now r is same below rising =

@@ -77,6 +77,8 @@ use Rattle.leases.specs.contracts.engine.Engine.TheInside as engine_inside
 use Rattle.histories.specs.contracts.entry.Entry as entry
 use Rattle.histories.specs.contracts.command.Command as command
 use Rattle.histories.specs.contracts.reply.Reply as reply
+use Rattle.hub.specs.contracts.ledger.Account as account
+use Rattle.hub.specs.contracts.ledger.Ledger as ledger
 use Rattle.hub.specs.contracts.locked.Locked as locked
 use Rattle.hub.specs.contracts.locked.Locked.TheInside as locked_inside
 use Rattle.hub.specs.contracts.hub.Hub as hub
@@ -326,8 +328,14 @@ engine_send = view_send engine_inside.the_row _ _ engine.the_view _ (declared_se
 pub opening_send : IsSend opening.the_row
 opening_send = declared_send opening.the_type (search (sendable, crosses, stored_send) depth 12, (search (sendable, crosses, registration_send) depth 12, tt))
 
+pub account_send : IsSend account.the_row
+account_send = search (sendable, crosses) depth 20
+
+pub ledger_send : IsSend ledger.the_row
+ledger_send = search (sendable, crosses, account_send) depth 20
+
 pub locked_send : IsSend locked.the_row
-locked_send = view_send locked_inside.the_row _ _ locked.the_view _ (declared_send locked_inside.the_type (search (sendable, crosses) depth 20, (engine_send, (opening_send, (search sendable depth 12, (search (sendable, crosses, entry_send) depth 12, (search sendable depth 12, (search sendable depth 12, (search sendable depth 12, tt)))))))))
+locked_send = view_send locked_inside.the_row _ _ locked.the_view _ (declared_send locked_inside.the_type (search (sendable, crosses) depth 20, (engine_send, (opening_send, (search sendable depth 12, (search (sendable, crosses, entry_send) depth 12, (search sendable depth 12, (search sendable depth 12, (ledger_send, (search sendable depth 12, tt))))))))))
 
 pub hub_sync : IsSync hub.the_row
 hub_sync = search (sendable, crosses, locked_send) depth 20 fits 100000

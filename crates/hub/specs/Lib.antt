@@ -1,5 +1,7 @@
 pub mod Seats
-pub mod Places
+pub mod Ledgers
+pub mod Audits
 pub mod Calls
+pub mod Reached
 pub mod Steps
 pub mod Tries

@@ -1,26 +1,37 @@
 -- Seats and their receipts.
-use Rattle.std.specs.Prelude.{◌≡◌, ℕ, ◌+◌, ◌≤◌, ◌<◌, nat_le, List, [], ◌∷◌, length, All, count_by}
-use Rattle.std.specs.Prelude.{◌==◌, if◌then◌else◌, max, ⊤}
+use Rattle.std.specs.Prelude.{◌≡◌, ℕ, ◌+◌, ◌≤◌, ◌<◌, nat_le, nat_lt, List, [], ◌∷◌, length, All}
+use Rattle.std.specs.Prelude.{count_by, ◌==◌, if◌then◌else◌, max, ⊤}
 use Rattle.histories.specs.Histories.{Entry, Told, own}
+use Rattle.hub.specs.declared.settled.Settled.{Settled}
 
--- a seat: its number, its own receipts, and one more than the greatest number
--- that it was told of other seats' receipts, 0 where it was told of none
+-- NO CALL IS SETTLED
+abbrev pub unsettled : Settled
+unsettled = record { count = 0; until = 0 }
+
+-- a seat: its number, the receipts of its own calls that are not settled, which of its
+-- calls are settled, and one more than the greatest number that it was told of other
+-- seats' receipts, 0 where it was told of none
 pub record PlainSeat : Type 0 where
   pub number : ℕ
   pub receipts : List Told
+  pub settled : Settled
   pub learnt : ℕ
 
 abbrev pub opened : ℕ → PlainSeat
-opened n = record { number = n; receipts = []; learnt = 0 }
+opened n = record { number = n; receipts = []; settled = unsettled; learnt = 0 }
 
 -- one more than the greatest number among the receipts
 abbrev pub held : List Told → ℕ
 held [] = 0
 held (r ∷ rs) = max (r.number + 1) (held rs)
 
--- one more than the greatest number that the seat holds or has learnt
+-- one more than the greatest number of the seat's own calls, settled or held
+abbrev pub own_reach : PlainSeat → ℕ
+own_reach s = max s.settled.until (held s.receipts)
+
+-- one more than the greatest number that the seat settled, holds or has learnt
 abbrev pub reach : PlainSeat → ℕ
-reach s = max (held s.receipts) s.learnt
+reach s = max (own_reach s) s.learnt
 
 -- THE RECEIPTS RISE: the number of each is above those of all before it, and at or above n
 abbrev pub IsRisingFrom : ℕ → List Told → Type 0
@@ -31,6 +42,10 @@ IsRisingFrom n (r ∷ rs) = (n ≤ r.number) × IsRisingFrom (r.number + 1) rs
 abbrev pub receipts_from : ℕ → List Told → List Told
 receipts_from n [] = []
 receipts_from n (r ∷ rs) = if nat_le n r.number then r ∷ receipts_from n rs else receipts_from n rs
+
+-- how many of the receipts have numbers below n
+abbrev pub count_below : ℕ → List Told → ℕ
+count_below n rs = count_by (λ (r : Told). nat_lt r.number n) rs
 
 -- how many of the receipts have the number n
 abbrev pub told_at : ℕ → List Told → ℕ

@@ -26,11 +26,12 @@ use Rattle.leases.specs.declared.opening.Opening.{Opening}
 use Rattle.leases.specs.declared.state.State.{State}
 use Rattle.histories.specs.Histories.{Entry, Replays, Told}
 use Rattle.hub.specs.Seats.{PlainSeat, reach}
+use Rattle.hub.specs.Ledgers.{Agrees, PlainLedger, cleared_of, noted, opened_for, settled_of}
 use Rattle.hub.specs.Calls.{Answered, Refused}
 
 -- the engine as it is kept, the opening that the history begins with and how many entries it stands
--- for, the entries of the history, how many it may have, how many seats there are, and whether the
--- end was called
+-- for, the entries of the history, how many it may have, how many seats there are, what is kept of
+-- their calls, and whether the end was called
 pub record PlainLocked : Type 0 where
   pub engine : State
   pub opening : Opening
@@ -38,6 +39,7 @@ pub record PlainLocked : Type 0 where
   pub history : List Entry
   pub limit : ℕ
   pub seats : ℕ
+  pub ledger : PlainLedger
   pub has_ended : Bool
 
 -- the engine as a plain value; not unfolded, so that
@@ -72,13 +74,16 @@ HasRoom l = (length l.history < l.limit) × (next_number l < 2 ^ 63)
 abbrev pub IsFull : PlainLocked → Type 0
 IsFull l = (l.limit ≤ length l.history) ⊎ (2 ^ 63 ≤ next_number l)
 
--- AN ACCEPTED COMMAND of a seat: one call on the engine, one entry, one
--- receipt, whose number is above all that the seat holds or has learnt
+-- AN ACCEPTED COMMAND of a seat: one call on the engine, one entry, one receipt, and
+-- its number is due. It is above all that the seat settled, holds or has learnt
 pub record Accepted (old : PlainLocked) (seat : PlainSeat) (c : Command) (r : Told)
     (new : PlainLocked) (seat' : PlainSeat) : Type 0 where
   pub legal : IsReplayed old
   pub engine : Answered (engine_at old) c r.entry.reply (engine_at new)
-  pub history : new ≡ record (with_engine old new.engine) { history = old.history ++ r.entry ∷ [] }
+  pub history : new ≡ record (with_engine old new.engine) {
+    history = old.history ++ r.entry ∷ [];
+    ledger = noted old.ledger seat.number (next_number old);
+  }
   pub room : HasRoom old
   pub number : r.number ≡ next_number old
   pub by : r.entry.seat ≡ seat.number
@@ -115,6 +120,7 @@ pub record IsFresh (l : PlainLocked) (seats limit : ℕ) : Type 0 where
   pub history : l.history ≡ []
   pub limited : l.limit ≡ limit
   pub seated : l.seats ≡ seats
+  pub ledger : l.ledger ≡ opened_for seats
   pub going : l.has_ended ≡ false
 
 -- WHERE IT FORGETS the engine does, and the history begins anew with the machine that is
@@ -133,6 +139,27 @@ pub record Forgets (old : PlainLocked) (result : Result ⊤ Fault) (new : PlainL
   pub ok : OnOk result (HasForgotten old new)
   pub err : OnErr result (IsSame old new)
   pub want : IfErr result (λ f. f ≡ OutOfMemory)
+
+-- A SEAT THAT AGREES with the hub settles: its receipts go, and seat and hub both keep how many
+-- calls that were, and up to which number
+pub record HasSettled (old : PlainLocked) (seat : PlainSeat) (new : PlainLocked)
+    (seat' : PlainSeat) : Type 0 where
+  pub agrees : Agrees old.ledger old.first old.history seat
+  pub emptied : seat' ≡ record seat { receipts = []; settled = settled_of seat }
+  pub noted : new ≡ record old { ledger = cleared_of old.ledger old.first seat }
+
+-- ONE THAT DIFFERS keeps its receipts, and nothing changes
+pub record HasDiffered (old : PlainLocked) (seat : PlainSeat) (new : PlainLocked)
+    (seat' : PlainSeat) : Type 0 where
+  pub differs : ¬ Agrees old.ledger old.first old.history seat
+  pub kept : seat' ≡ seat
+  pub same : new ≡ old
+
+pub record Settles (old : PlainLocked) (seat : PlainSeat) (result : Bool) (new : PlainLocked)
+    (seat' : PlainSeat) : Type 0 where
+  pub legal : IsReplayed old
+  pub settled : result ≡ true → HasSettled old seat new seat'
+  pub differed : result ≡ false → HasDiffered old seat new seat'
 
 -- after the end was called
 abbrev pub ended : PlainLocked → PlainLocked

@@ -1,16 +1,14 @@
-//! Compares the seats' receipts with the history.
-ghost use Rattle.std.specs.Prelude.{◌≡◌, ◌<◌, ◌≤◌, ◌+◌, ◌^◌, ◌↔◌, ℕ, IsTrue, All, count_by};
-ghost use Rattle.std.specs.Prelude.{◌==◌, length, replicate};
+//! Compares seats with the history, and with what the hub keeps of their calls.
+ghost use Rattle.std.specs.Prelude.{◌≡◌, ◌<◌, ◌+◌, ◌^◌, ◌↔◌, ℕ, IsTrue, All, List, count_by, ◌==◌};
+ghost use Rattle.std.specs.Prelude.{length};
 ghost use Rattle.histories.specs.Histories as histories;
-ghost use Rattle.histories.specs.Histories.{own};
-ghost use Rattle.hub.specs.Places.{places_at};
-ghost use Rattle.hub.specs.Seats.{PlainSeat, IsAudited, receipts_from, times_told};
+ghost use Rattle.hub.specs.Audits.{IsAccounted, all_below};
+ghost use Rattle.hub.specs.Ledgers.{Agrees, IsLedger, PlainLedger, ledger_in, numbers_of};
+ghost use Rattle.hub.specs.Seats.{IsAudited, PlainSeat, unsettled};
 
+use crate::ledger::Ledger;
 use crate::seat::Seat;
-use histories::{Entry, agrees};
-
-// As many as a hub has seats at most.
-const PLACES: usize = 64;
+use histories::{Entry, Receipt, are_of};
 
 fn is_once(seats: &[Seat], number: u64) -> bool
     ensures { IsTrue result
@@ -31,69 +29,72 @@ fn is_each_once(seats: &[Seat], count: u64) -> bool
     true
 }
 
-fn all_agree(history: &[Entry], first: u64, seats: &[Seat]) -> bool
-    requires { first + length history.now < 2 ^ 64 }
-    ensures { IsTrue result
-        ↔ All (λ (s : PlainSeat). own s.number first history.now ≡ receipts_from first s.receipts)
-        seats.now }
-{
-    seats.iter().all(|seat| agrees(history, seat.number(), first, seat.receipts_from(first)))
-}
-
 fn all_known(history: &[Entry], count: u64) -> bool
     ensures { IsTrue result ↔ All (λ (e : histories.Entry). e.seat < count) history.now }
 {
     history.iter().all(|entry| entry.seat() < count)
 }
 
-// Passes over the receipts of this number, and returns how many there are. The places say where the
-// receipts of no lower number start at each seat.
-fn pass(seats: &[Seat], places: &mut [usize], number: u64) -> usize
-    requires { places.old ≡ places_at number seats.now }
-    ensures places { places.new ≡ places_at (number + 1) seats.now }
-    ensures passed { result ≡ times_told number seats.now }
+// Returns whether the receipts have these numbers, in this order.
+fn have_numbers(receipts: &[Receipt], numbers: &[u64]) -> bool
+    ensures { IsTrue result ↔ (numbers_of receipts.now ≡ numbers.now) }
 {
-    let mut passed = 0;
-    for index in 0..seats.len() {
-        let place = places[index];
-        let behind = seats[index].place_behind(place, number);
-        passed += behind - place;
-        places[index] = behind;
-    }
-    passed
-}
-
-fn is_each_told_by(seats: &[Seat], first: u64, places: &mut [usize]) -> bool
-    requires { places.old ≡ replicate (length seats.now) 0 }
-    ensures { IsTrue result ↔ ((n : ℕ) → n < first → times_told n seats.now ≡ 1) }
-{
-    for number in 0..first {
-        if pass(seats, places, number) != 1 {
+    let mut rest = receipts;
+    let mut left = numbers;
+    while let Some((receipt, more)) = rest.split_first() {
+        let Some((number, others)) = left.split_first() else {
+            return false;
+        };
+        if receipt.number() != *number {
             return false;
         }
+        rest = more;
+        left = others;
     }
-    true
+    left.is_empty()
 }
 
-// Returns whether each number below `first` is on one receipt of all seats together. Passes over
-// each seat's receipts once.
-fn is_each_told(seats: &[Seat], first: u64) -> bool
-    requires { length seats.now ≤ 64 }
-    ensures { IsTrue result ↔ ((n : ℕ) → n < first → times_told n seats.now ≡ 1) }
+/// Returns whether the seat agrees with the hub. The first entry has the number `first`. Takes no
+/// memory, and looks only at the seat's own entries.
+#[tactic(auto, unfolding(crate::specs::Ledgers::ledger_in))]
+pub(crate) fn agrees(ledger: &Ledger, history: &[Entry], first: u64, seat: &Seat) -> bool
+    requires { IsLedger (ledger_in ledger.now) first history.now }
+    ensures { IsTrue result ↔ Agrees (ledger_in ledger.now) first history.now seat.now }
 {
-    let mut places = [0; PLACES];
-    is_each_told_by(seats, first, &mut places[..seats.len()])
+    let Some(account) = ledger.accounts.get(seat.number() as usize) else {
+        return false;
+    };
+    if !account.settled.is_same(&seat.settled()) {
+        return false;
+    }
+    if !have_numbers(seat.receipts(), account.due.as_slice()) {
+        return false;
+    }
+    are_of(history, first, seat.receipts())
 }
 
-/// Returns whether the seats' receipts agree with the history, and there are `count` seats. The
-/// first entry has the number `first`. Takes no memory.
-///
-/// Each number below `first` has to be on one receipt. From `first` on, that follows from the
-/// receipts that each seat holds.
-pub(crate) fn is_audited(history: &[Entry], first: u64, seats: &[Seat], count: u64) -> bool
-    requires seats { count ≤ 64 }
-    requires entries { first + length history.now < 2 ^ 64 }
-    ensures { IsTrue result ↔ IsAudited seats.now count first history.now }
+fn all_agree(ledger: &Ledger, history: &[Entry], first: u64, seats: &[Seat]) -> bool
+    requires { IsLedger (ledger_in ledger.now) first history.now }
+    ensures { IsTrue result ↔ All (Agrees (ledger_in ledger.now) first history.now) seats.now }
+{
+    seats
+        .iter()
+        .all(|seat| agrees(ledger, history, first, seat))
+}
+
+/// Returns whether the seats account for every call that was ever accepted, and there are `count`
+/// of them. The first entry has the number `first`. Takes no memory.
+pub(crate) fn is_accounted(
+    ledger: &Ledger,
+    history: &[Entry],
+    first: u64,
+    seats: &[Seat],
+    count: u64,
+) -> bool
+    requires ledger { IsLedger (ledger_in ledger.now) first history.now }
+    requires count { length (ledger_in ledger.now).accounts ≡ count }
+    ensures { IsTrue result
+        ↔ IsAccounted (ledger_in ledger.now) seats.now count first history.now }
 {
     if seats.len() as u64 != count {
         return false;
@@ -104,8 +105,29 @@ pub(crate) fn is_audited(history: &[Entry], first: u64, seats: &[Seat], count: u
     if !all_known(history, count) {
         return false;
     }
-    if !is_each_told(seats, first) {
+    if ledger.strangers != 0 {
         return false;
     }
-    all_agree(history, first, seats)
+    all_agree(ledger, history, first, seats)
 }
+
+/// Counts the receipts of numbers below `first`, of all seats, and adds them to `before`.
+pub(crate) fn count_alone(seats: &[Seat], first: u64, before: u64) -> u64
+    requires { before + all_below first seats.now < 2 ^ 64 }
+    ensures { result ≡ before + all_below first seats.now }
+{
+    let mut count = before;
+    for seat in seats {
+        count += seat.count_below(first);
+    }
+    count
+}
+
+/// States that seats which never settled are audited as if no seat could. From the first entry on,
+/// the receipts of each are those of its entries, and each number is on one receipt.
+pub fn seats_that_never_settled_are_audited()
+    ensures { (l : PlainLedger) (seats : List PlainSeat) (count first : ℕ)
+        (entries : List histories.Entry) → IsAccounted l seats count first entries
+        → All (λ (s : PlainSeat). s.settled ≡ unsettled) seats
+        → IsAudited seats count first entries }
+{}

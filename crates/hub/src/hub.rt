@@ -1,9 +1,12 @@
 //! Puts the engine and its history under one lock, for threads.
 ghost use Rattle.std.specs.Prelude.{◌≡◌, ◌↔◌, ◌≤◌, ◌<◌, ◌⊎◌, IfOk, IfErr, IsErrOf, map};
-ghost use Rattle.std.specs.List.{range_with_len};
+ghost use Rattle.std.specs.List.{range_with_len, sum_by};
 ghost use Rattle.histories.specs.Histories.{IsLegal};
 ghost use Rattle.reference.specs.declared.fault.Fault.TheVariants.{BadLimit, OutOfMemory};
-ghost use Rattle.hub.specs.Seats.{IsAudited, opened};
+ghost use Rattle.hub.specs.Audits.{IsAccounted, alone};
+ghost use Rattle.hub.specs.Ledgers.{PlainLedger};
+ghost use Rattle.hub.specs.Reached.{IsReachedBy};
+ghost use Rattle.hub.specs.Seats.{IsAudited, PlainSeat, opened};
 ghost use Rattle.hub.specs.Steps.{OpensAt};
 ghost use Rattle.leases.specs.Openings.{opening_in};
 ghost use Rattle.hub.specs.declared.locked.TheConstants.{MAX_HISTORY, MAX_SEATS};
@@ -68,6 +71,8 @@ impl Hub {
     /// # Errors
     /// `BadLimit` if seats are not 1 to 64, or entries not 1 to 16,777,216; `OutOfMemory` when out
     /// of memory.
+    ///
+    /// Example: `an_opening_sets_limits` in crates/uses/src/hubs.rt.
     pub fn open(alloc: Global, seats: u64, history_limit: u64) -> Result<(Hub, Vec<Seat>), Fault>
         ensures ok { IfOk result (λ p.
             (p.0 ≡ seats) × (p.1.items ≡ map opened (range_with_len 0 seats))) }
@@ -85,14 +90,25 @@ impl Hub {
     }
 
     /// Compares the seats' receipts with the history, and returns the history. Takes no memory.
+    /// Settled calls were compared before.
     ///
     /// # Errors
-    /// Hub and seats come back if the seats' numbers are not those of `open`, each once, or if
-    /// their receipts differ from the history.
+    /// Hub and seats come back if the seats' numbers are not those of `open`, each once. They also
+    /// come back if a seat differs from the history, or if a call of another hub's seat was
+    /// accepted.
+    ///
+    /// Example: `a_close_wants_every_seat` in crates/uses/src/hubs.rt.
     pub fn close(self, seats: Vec<Seat>) -> Result<Closed, (Hub, Vec<Seat>)>
         ensures legal { IfOk result (λ c. IsLegal (opening_in c.opening) c.entries.items) }
         ensures opens { IfOk result (λ c. OpensAt c.first (opening_in c.opening)) }
-        ensures ok { IfOk result (λ c. IsAudited seats.items self c.first c.entries.items) }
+        ensures reached { IfOk result (λ c. IsReachedBy c.first (opening_in c.opening)) }
+        ensures ok { IfOk result (λ c. (l : PlainLedger)
+            × IsAccounted l seats.items self c.first c.entries.items
+            × (c.by_number ≡ alone l seats.items c.first)) }
+        ensures unsettled { IfOk result (λ c. c.settled ≡ 0
+            → IsAudited seats.items self c.first c.entries.items) }
+        ensures settled { IfOk result (λ c.
+            c.settled ≡ sum_by (λ (s : PlainSeat). s.settled.count) seats.items) }
         ensures err { IfErr result (λ p. (p.0 ≡ self) × (p.1 ≡ seats)) }
     {
         let Hub {

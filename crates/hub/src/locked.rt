@@ -1,9 +1,12 @@
 //! Keeps what lies under the lock.
 ghost use Rattle.std.specs.Prelude.{◌≡◌, ◌<◌, ◌≤◌, ◌⊎◌, ◌↔◌, IfOk, IfErr, IsErrOf, map};
-ghost use Rattle.std.specs.List.{range_with_len};
+ghost use Rattle.std.specs.List.{range_with_len, sum_by};
 ghost use Rattle.histories.specs.Histories.{IsLegal};
 ghost use Rattle.reference.specs.declared.fault.Fault.TheVariants.{BadLimit, OutOfMemory};
-ghost use Rattle.hub.specs.Seats.{IsAudited, opened};
+ghost use Rattle.hub.specs.Audits.{IsAccounted, alone};
+ghost use Rattle.hub.specs.Ledgers.{IsLedger};
+ghost use Rattle.hub.specs.Reached.{IsReachedBy};
+ghost use Rattle.hub.specs.Seats.{IsAudited, PlainSeat, opened};
 ghost use Rattle.laws_engine.specs.Promises.{KeepsItsPromises};
 ghost use Rattle.leases.specs.Openings.{opening_in};
 ghost use Rattle.hub.specs.Steps.{Forgets, IsFresh, IsReplayed, OpensAt, engine_at};
@@ -11,9 +14,11 @@ ghost use Rattle.hub.specs.declared.locked.TheConstants.{MAX_HISTORY, MAX_SEATS}
 
 mod calls;
 mod looks;
+mod settles;
 mod turns;
 
-use crate::audit::is_audited;
+use crate::audit::{count_alone, is_accounted};
+use crate::ledger::Ledger;
 use crate::seat::Seat;
 use histories::Entry;
 use leases::{Engine, Opening};
@@ -32,6 +37,8 @@ pub const MAX_ENTRIES: u64 = 9_223_372_036_854_775_808;
 pub const MAX_SEATS: u64 = 64;
 
 /// Holds the history of a hub that was closed.
+///
+/// Example: `a_closed_hub_shows_its_history` in crates/uses/src/hubs.rt.
 #[derive(Drop)]
 pub struct Closed {
     /// Holds what the history starts with: no stream and no query, if the hub never forgot.
@@ -40,6 +47,10 @@ pub struct Closed {
     pub first: u64,
     /// Holds its entries, by their numbers.
     pub entries: Vec<Entry>,
+    /// Counts the calls that were compared before, when a seat settled.
+    pub settled: u64,
+    /// Counts the calls, of all, whose entries had been forgotten: their numbers were compared.
+    pub by_number: u64,
 }
 
 /// Is what one try of `lease_wait` answers.
@@ -67,7 +78,8 @@ pub enum Rested {
 /// Holds what lies under the lock of a hub: the engine, the history of what it accepted, and
 /// whether the end was called. Each step of a hub is one of its methods.
 ///
-/// Its history leads from its opening to the engine's machine.
+/// Its history leads from its opening to the engine's machine, and accepted commands led to the
+/// opening, from nothing.
 #[derive(Drop)]
 pub struct Locked {
     /// Provides the memory for what grows under the lock.
@@ -85,17 +97,21 @@ pub struct Locked {
     limit: usize,
     /// Counts the seats that were opened.
     seats: u64,
+    /// Keeps which calls of each seat are settled, and the numbers of the others.
+    ledger: Ledger,
     /// Says whether the end was called.
     has_ended: bool,
 }
 
 impl Model for Locked {
     ghost use Rattle.std.specs.Coded.{codes};
-    ghost use Rattle.std.specs.Prelude.{◌≤◌, ◌+◌, ◌^◌, length};
+    ghost use Rattle.std.specs.Prelude.{◌≡◌, ◌≤◌, ◌+◌, ◌^◌, length};
     ghost use Rattle.values.specs.contracts.resolved.Condition as condition;
     ghost use Rattle.leases.specs.Openings.{opening_in};
     ghost use Rattle.leases.specs.Shown.{engine_in};
     ghost use Rattle.histories.specs.Histories.{Replays};
+    ghost use Rattle.hub.specs.Ledgers.{IsLedger, ledger_in};
+    ghost use Rattle.hub.specs.Reached.{IsReachedBy};
     ghost use Rattle.hub.specs.Steps.{OpensAt, PlainLocked};
 
     ghost Value = { PlainLocked };
@@ -109,13 +125,17 @@ impl Model for Locked {
       history = l.history.items;
       limit = l.limit;
       seats = l.seats;
+      ledger = ledger_in l.ledger;
       has_ended = l.has_ended;
     } };
 
     ghost invariant = { λ l. Replays (opening_in l.opening) l.history.items
         (engine_in l.engine).machine
         × (l.limit ≤ 2 ^ 24) × (l.seats ≤ 64) × (l.first + length l.history.items ≤ 2 ^ 63)
-        × OpensAt l.first (opening_in l.opening) };
+        × OpensAt l.first (opening_in l.opening)
+        × IsReachedBy l.first (opening_in l.opening)
+        × (length (ledger_in l.ledger).accounts ≡ l.seats)
+        × IsLedger (ledger_in l.ledger) l.first l.history.items };
 }
 
 impl Locked {
@@ -136,6 +156,7 @@ impl Locked {
             return Err(Fault::BadLimit);
         }
         let places = open_seats(alloc, seats)?;
+        let ledger = Ledger::new(alloc, seats)?;
         let locked = Locked {
             alloc,
             engine: Engine::new(alloc),
@@ -144,16 +165,20 @@ impl Locked {
             history: Vec::new(alloc),
             limit: history_limit as usize,
             seats,
+            ledger,
             has_ended: false,
         };
         Ok((locked, places))
     }
 
-    /// States that the history leads from its opening to the engine's machine. States also that the
-    /// engine keeps its promises: of what waits, of what may be leased, and of idleness.
+    /// States that the history leads from its opening to the engine's machine, and that accepted
+    /// commands led to the opening, from nothing. States also that the engine keeps its promises:
+    /// of what waits, of what may be leased, and of idleness.
     #[tactic(auto, unfolding(crate::specs::Steps::engine_at))]
     pub fn keeps_its_promises(&self)
         ensures replayed { IsReplayed self.now }
+        ensures reached { IsReachedBy self.now.first (opening_in self.now.opening) }
+        ensures ledger { IsLedger self.now.ledger self.now.first self.now.history }
         ensures promises { KeepsItsPromises (engine_at self.now) }
     {
         let _ = self.engine.waiting(0); // for the proof
@@ -179,21 +204,31 @@ impl Locked {
     /// Compares the seats' receipts with the history, and returns the history. Takes no memory.
     ///
     /// The entries that an opening replaces are gone: only their receipts' numbers are compared.
+    /// Settled calls were compared before.
     ///
     /// # Errors
-    /// Everything comes back as it was if the seats' numbers are not those of `new`, each once, or
-    /// if their receipts differ from the history.
+    /// Everything comes back as it was if the seats' numbers are not those of `new`, each once. It
+    /// also comes back if a seat differs from the history, or if a call of another hub's seat was
+    /// accepted.
     #[tactic(auto, unfolding(crate::specs::Steps::engine_at))]
     pub fn close(self, seats: Vec<Seat>) -> Result<Closed, (Locked, Vec<Seat>)>
         ensures legal { IfOk result (λ c. IsLegal (opening_in c.opening) c.entries.items) }
         ensures opens { IfOk result (λ c. OpensAt c.first (opening_in c.opening)) }
+        ensures reached { IfOk result (λ c. IsReachedBy c.first (opening_in c.opening)) }
         ensures ok { IfOk result (λ c. (c.opening ≡ self.opening) × (c.first ≡ self.first)
             × (c.entries.items ≡ self.history)
-            × IsAudited seats.items self.seats c.first c.entries.items) }
+            × IsAccounted self.ledger seats.items self.seats c.first c.entries.items) }
+        ensures unsettled { IfOk result (λ c. c.settled ≡ 0
+            → IsAudited seats.items self.seats c.first c.entries.items) }
+        ensures settled { IfOk result (λ c.
+            c.settled ≡ sum_by (λ (s : PlainSeat). s.settled.count) seats.items) }
+        ensures by_number { IfOk result (λ c.
+            c.by_number ≡ alone self.ledger seats.items self.first) }
         ensures err { IfErr result (λ p. (p.0 ≡ self) × (p.1 ≡ seats)
-            × (¬ (IsAudited seats.items self.seats self.first self.history))) }
+            × (¬ (IsAccounted self.ledger seats.items self.seats self.first self.history))) }
     {
-        if !is_audited(
+        if !is_accounted(
+            &self.ledger,
             self.history.as_slice(),
             self.first,
             seats.as_slice(),
@@ -201,6 +236,7 @@ impl Locked {
         ) {
             return Err((self, seats));
         }
+        let by_number = count_alone(seats.as_slice(), self.first, self.ledger.by_number);
         let Locked {
             alloc: _,
             engine: _,
@@ -209,12 +245,15 @@ impl Locked {
             history,
             limit: _,
             seats: _,
+            ledger,
             has_ended: _,
         } = self;
         Ok(Closed {
             opening,
             first,
             entries: history,
+            settled: ledger.settled,
+            by_number,
         })
     }
 }

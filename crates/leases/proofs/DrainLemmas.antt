@@ -1,5 +1,5 @@
 -- Turns that go out and come back one after the other leave the machine as it is, the turns of others out, and an engine that was whole whole.
-use Rattle.std.proofs.Common.{◌≡◌, ◌≢◌, ◌==◌, ◌≤◌, ◌<◌, ◌⊎◌, ℕ, zero, suc, ◌+◌, ◌&&◌, not, nat_le, Bool, true, false, inl, inr, Some, None, IsErrAnd, Result, Ok, Err, List, [], ◌∷◌, ◌++◌, length, get_or, set, refl, sym, ap, ◌∙◌, subst, arith, eq-eqb}
+use Rattle.std.proofs.Common.{◌≡◌, ◌≢◌, ◌==◌, ◌≤◌, ◌<◌, ◌⊎◌, ℕ, zero, suc, ◌+◌, ◌&&◌, not, nat_le, Bool, true, false, inl, inr, Some, None, IfErr, IsErrAnd, OnErr, OnOk, is_some, Result, Ok, Err, List, [], ◌∷◌, ◌++◌, length, get_or, set, refl, sym, ap, ◌∙◌, subst, arith, eq-eqb}
 use Rattle.std.specs.Prelude.{⊤}
 use Rattle.std.proofs.lemmas.Bool.{ne_eqb}
 use Rattle.std.proofs.lemmas.Option.{slice_get_within}
@@ -22,7 +22,7 @@ use Rattle.laws_engine.specs.Calls.{of_others, others}
 use Rattle.laws_engine.specs.Engines.{Broken, Dropped, GoodEngine, IsIn, Lease, PlainEngine, PlainRemains, Running, remains_at}
 use Rattle.laws_engine.specs.Histories as history
 use Rattle.laws_engine.specs.Histories.{ComesBack, IsCallStep}
-use Rattle.leases.specs.Drains.{HasBrokenOne, HasWanted, HaveRun, LeavesOthers, OneHasRun, OneOrMoreHaveRun, RunsFirst, RunsTurns, SomeHaveRun}
+use Rattle.leases.specs.Drains.{HasBrokenOne, HasWanted, HaveRun, LeavesOthers, OneHasRun, OneOrMoreHaveRun, RunsFirst, RunsTurns, SomeHaveRun, as_drained}
 use Rattle.leases.specs.Turns.{HasReady, IsTurnOf}
 use Rattle.leases.specs.Views.{lease_of}
 use Rattle.leases.specs.Whole.{IsWholeEngine}
@@ -73,6 +73,25 @@ refused_drain e rows f h =
     let is : f ≡ BadLimit = told_limit (not (nat_le 1 rows && nat_le rows MAX_TURN)) f h in
     let limit : drain_fault rows ≡ Some BadLimit = sym h ∙ ap Some is in
     subst (λ z. RunsTurns e rows (Err z) e × LeavesOthers e (Err z) e) (sym is) ((limit, refl), refl)
+
+abbrev pub failed : Fault → Result Bool Fault
+failed f = Err f
+
+same_fault : {f g : Fault} → failed f ≡ failed g → f ≡ g
+same_fault e = cc
+
+limit_only : BadLimit ≡ TooManyLeases → ⊥
+limit_only e = absurd (cc)
+
+pub never_full : (rows : ℕ) (f : Fault) → Some f ≡ drain_fault rows → failed f ≡ failed TooManyLeases → ⊥
+never_full rows f h full = limit_only (sym (told_limit (not (nat_le 1 rows && nat_le rows MAX_TURN)) f h) ∙ same_fault full)
+
+pub only_looked : (r : Result Bool Fault) (before until : ℕ) → OnErr r (before < until) → until ≤ before → IfErr r (λ f. f ≡ BadLimit)
+only_looked (Ok more) before until h none = tt
+only_looked (Err f) before until h none = absurd (omega (arith, h, none))
+
+pub limit_is : (rows : ℕ) (f : Fault) → Some f ≡ drain_fault rows → f ≡ BadLimit
+limit_is rows f h = told_limit (not (nat_le 1 rows && nat_le rows MAX_TURN)) f h
 
 -- A STEP THAT IS REFUSED ends a drain
 pub step_ends : (e1 e2 e3 : PlainEngine) (rows : ℕ) (f : Fault) → drain_fault rows ≡ None → SomeHaveRun rows e1 e2 → RunsFirst e2 rows (Err f) e3 → RunsTurns e1 rows (Err f) e3
@@ -125,6 +144,12 @@ step_stays e1 e2 rows Stranger h had = absurd h
 step_stays e1 e2 rows HistoryFull h had = absurd h
 step_stays e1 e2 rows (Foreign entries) h had = absurd h
 
+-- nor did it where turns or numbers were
+pub full_stays : (e1 e2 : PlainEngine) (rows : ℕ) (f : Fault) → failed f ≡ failed TooManyLeases → RunsFirst e1 rows (Err f) e2 → e2.next ≡ e1.next
+full_stays e1 e2 rows f is h =
+    let stays : RunsFirst e1 rows (Err TooManyLeases) e2 = subst (λ z. RunsFirst e1 rows (Err z) e2) (same_fault is) h in
+    ap (λ e. e.next) stays.0
+
 -- A TURN THAT IS RUN
 pub comes_machine : (e1 e2 : PlainEngine) (l : Lease) (q : Registered) (p p2 : PlainQuery) → ComesBack e1 l q p p2 e2 → e2.machine ≡ e1.machine
 comes_machine e1 e2 l q p p2 (inl h) = ap (λ e. e.machine) h.1
@@ -161,6 +186,37 @@ steps_count e1 e2 rows h =
     let some : e1.next ≤ h.0.next = have_given rows h.1.0.0 e1 h.0 h.1.0.1 in
     let last : e2.next ≡ h.0.next + 1 = step_counts h.0 e2 rows h.1.1 in
     omega (arith, some, last)
+
+-- at least one did where something was ready and nothing is, and none where no number was taken
+some_since : (rows : ℕ) (turns : List Turn) (e1 e2 : PlainEngine) → HaveRun rows e1 turns e2 → HasReady e1 → first_of e2.slots ≡ None → e1.next < e2.next
+some_since rows [] e1 e2 ran ready none =
+    let never : is_some (first_of e1.slots) ≡ false = ap (λ e. is_some (first_of e.slots)) (sym ran) ∙ ap is_some none in
+    absurd (cc)
+some_since rows (t ∷ turns) e1 e2 ran ready none =
+    let first : ran.1.0.next ≡ e1.next + 1 = step_counts e1 ran.1.0 rows (t, (ran.0, (ran.1.1.0, ran.1.1.1.0))) in
+    let more : ran.1.0.next ≤ e2.next = have_given rows turns ran.1.0 e2 ran.1.1.1.1 in
+    omega (arith, first, more)
+
+none_since : (rows : ℕ) (turns : List Turn) (e1 e2 : PlainEngine) → HaveRun rows e1 turns e2 → e2.next ≤ e1.next → e2 ≡ e1
+none_since rows [] e1 e2 ran none = ran
+none_since rows (t ∷ turns) e1 e2 ran none =
+    let first : ran.1.0.next ≡ e1.next + 1 = step_counts e1 ran.1.0 rows (t, (ran.0, (ran.1.1.0, ran.1.1.1.0))) in
+    let more : ran.1.0.next ≤ e2.next = have_given rows turns ran.1.0 e2 ran.1.1.1.1 in
+    absurd (omega (arith, first, more, none))
+
+pub looks_only : (old new : PlainEngine) (rows : ℕ) (r : Result Bool Fault) → RunsTurns old rows (as_drained r) new → new.next ≤ old.next → IfErr r (λ f. f ≡ BadLimit) → new ≡ old
+looks_only old new rows (Ok more) ran none refused = none_since rows ran.1.0 old new ran.1.1 none
+looks_only old new rows (Err f) ran none refused =
+    let limit : RunsTurns old rows (Err BadLimit) new = subst (λ z. RunsTurns old rows (Err z) new) refused ran in
+    limit.1
+
+pub some_ran : (old new : PlainEngine) (rows turns : ℕ) (r : Result Bool Fault) → RunsTurns old rows (as_drained r) new → (r ≡ Ok true → new.next ≡ old.next + turns) → (r ≡ Ok false → first_of new.slots ≡ None)
+    → turns ≢ 0 → HasReady old → OnOk r (old.next < new.next)
+some_ran old new rows turns (Ok true) ran last idle some ready =
+    let all : new.next ≡ old.next + turns = last refl in
+    omega (arith, all, some)
+some_ran old new rows turns (Ok false) ran last idle some ready = some_since rows ran.1.0 old new ran.1.1 ready (idle refl)
+some_ran old new rows turns (Err f) ran last idle some ready = tt
 
 -- NUMBERS are wanted where no turn is out and a drain is refused a lease
 none_out : (e : PlainEngine) → (MAX_LEASES ≤ length e.leases) ⊎ (LEASE_NUMBERS ≤ e.next) → e.leases ≡ [] → LEASE_NUMBERS ≤ e.next

@@ -517,11 +517,12 @@ module _ {start now : State} {s : Slot} {above : Option Slot} {rows : ℕ} {went
         ran = more_run rows (engine_in start) (told e s above) (told e2 s above) r.ran one_ran;
       }
 
-    pub goes_again : (next : Option (Side × ℕ)) (stays : Bool) (new : Slot) → next ≡ next_for e2 s.query s.operator → GoesOn m2 s next stays → (stays ≡ true → IsNoSteeper above s) → new ≡ with_next s next
-        → AreRunning start m2 s above rows new
-    goes_again next stays new same goes flat is =
+    pub goes_again : (next : Option (Side × ℕ)) (stays : Bool) (until : ℕ) (new : Slot) → next ≡ next_for e2 s.query s.operator → GoesOn m2 s next stays until → until ≤ LEASE_NUMBERS → (stays ≡ true → IsNoSteeper above s)
+        → new ≡ with_next s next → AreRunning start m2 s above rows new
+    goes_again next stays until new same goes few flat is =
         let with = goes_with s next goes.same in
-        runs_on with.0 (sym same ∙ with.1.0) with.1.1 (flat goes.first) goes.numbers new (is ∙ ap (with_next s) same)
+        let left : m2.next < until = goes.numbers in
+        runs_on with.0 (sym same ∙ with.1.0) with.1.1 (flat goes.first) (omega (arith, left, few)) new (is ∙ ap (with_next s) same)
 
   -- IT WAS REFUSED MEMORY before it took anything: with the slots told all is as it was told
   module _ {m : State} (rest : GivesNothing now m) {refused : Refused} (is_before : refused ≡ Before) (stopped : HasStoppedIn refused e went rows (engine_in m)) where
@@ -540,6 +541,9 @@ module _ {start now : State} {s : Slot} {above : Option Slot} {rows : ℕ} {went
 
     pub wanted_before : {new : State} → new ≡ told_state m s above → HasWantedBehind rows (engine_in start) (engine_in new)
     wanted_before {new} is = (told e s above, (r.ran, inl (r.allowed, ap is_some r.first, told_before new is)))
+
+    pub before_next : {new : State} → new ≡ told_state m s above → new.next ≡ now.next
+    before_next {new} is = ap (λ (z : PlainEngine). z.next) (told_before new is)
 
     pub before_sound : {new : State} → new ≡ told_state m s above → IsSound new
     before_sound {new} is = sound_as t new r.sound (told_before new is) (subst (GivesNothing t) (sym is) (record { undropped = rest.undropped; readers = rest.readers; leases = rest.leases }))
@@ -576,6 +580,12 @@ module _ {start now : State} {s : Slot} {above : Option Slot} {rows : ℕ} {went
 
       pub wanted_within : HasWantedBehind rows (engine_in start) (engine_in new)
       wanted_within = (told e s above, (r.ran, one.wanted_within t turn rows r.sound r.first r.allowed r.numbers mw stopped_told new broke_told))
+
+      pub within_next : new.next ≡ now.next + 1
+      within_next = ap (λ (z : PlainEngine). z.next) (broke_here left_running.0 left_running.1)
+        where
+          left_running : IsRunningAt (engine_in (given m now.next)) s.query
+          left_running = may_break s.query refl
 
       pub within_sound : Forgets n (given m now.next) new → IsSound new
       within_sound forgets =

@@ -75,6 +75,11 @@ RunsTurns old rows (Err OutOfMemory) new =
     × (SomeHaveRun rows old last × HasWanted rows last new))
 RunsTurns old rows (Err fault) new = ⊥
 
+-- A DRAIN OF A NUMBER OF TURNS, as one that goes on until nothing is ready
+abbrev pub as_drained : Result Bool Fault → Result ⊤ Fault
+as_drained (Ok more) = Ok tt
+as_drained (Err fault) = Err fault
+
 -- THE TURNS OF OTHERS, that were out before
 -- just those of one query ended, and it is broken
 pub record HasBrokenOne (old new : PlainEngine) : Type 0 where

@@ -11,7 +11,6 @@ use Rattle.leases.specs.Applied.{BothStand, MayTell}
 use Rattle.leases.specs.Asked.{HasOperatorAt}
 use Rattle.leases.specs.Readers.{next_for, with_slots, with_updates}
 use Rattle.leases.specs.Shown.{engine_in}
-use Rattle.leases.specs.declared.limits.TheConstants.{LEASE_NUMBERS}
 use Rattle.leases.specs.declared.state.State.{State}
 
 -- a slot with what its operator may take next
@@ -42,9 +41,10 @@ pub record MayTellBoth (m : State) (s : Slot) (above : Option Slot) : Type 0 whe
 abbrev pub IsNoSteeper : Option Slot → Slot → Type 0
 IsNoSteeper above s = MatchOption above ⊤ (λ a. is_gt (fraction_cmp a.slope.0 s.slope.0) ≡ false)
 
--- one that has none goes on with what it may take next: there
--- is something of the same instant, and a number for a turn
-pub record GoesOn (m : State) (s : Slot) (next : Option (Side × ℕ)) (stays : Bool) : Type 0 where
+-- one that has none goes on with what it may take next: there is
+-- something of the same instant, and a number for a turn below the given one
+pub record GoesOn (m : State) (s : Slot) (next : Option (Side × ℕ)) (stays : Bool)
+    (until : ℕ) : Type 0 where
   pub first : stays ≡ true
-  pub numbers : m.next < LEASE_NUMBERS
+  pub numbers : m.next < until
   pub same : goes_on s next ≡ true

@@ -13,6 +13,8 @@ use stream_store::Stored;
 /// Holds what an engine knows after a forgetting: its streams with the rows that queries need, and
 /// its queries, each with its waiting answers. The definition `opening_in` says which machine it
 /// is.
+///
+/// Example: `an_opening_shows_what_a_forget_leaves` in crates/uses/src/engine.rt.
 #[derive(Drop)]
 pub struct Opening {
     /// Holds the declared streams by number, with the rows that are needed.

@@ -20,8 +20,8 @@ pub(crate) struct Place {
     pub(crate) arrivals: u64,
 }
 
-/// Holds a query as it was registered, and also how many of its answers were taken and whether it
-/// was dropped.
+/// Holds a query as it was registered, and what changes later. That is whether it was dropped, how
+/// many of its answers were taken, and from where its answers go on after a forgetting.
 #[derive(Drop)]
 pub(crate) struct Registration {
     /// Holds its name.

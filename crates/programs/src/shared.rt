@@ -64,7 +64,7 @@ pub(crate) fn run_shared<R: Threads + Wait + Sync, I: Source, O: Sink, E: Sink>(
     seats.push_reserved(seat);
     match hub.close(seats) {
         Ok(closed) => {
-            if is_whole(forgot, closed.first) {
+            if is_whole(forgot, closed.first, closed.settled) {
                 0
             } else {
                 differ(errors)
@@ -74,9 +74,11 @@ pub(crate) fn run_shared<R: Threads + Wait + Sync, I: Source, O: Sink, E: Sink>(
     }
 }
 
-// Returns whether every entry that is lost was given up by a request to forget.
-fn is_whole(forgot: bool, first: u64) -> bool
-    ensures { result ≡ true → forgot ≡ false → first ≡ 0 }
+// Returns whether the seat has all its receipts, and every entry that is lost was given up by a
+// request to forget.
+fn is_whole(forgot: bool, first: u64, settled: u64) -> bool
+    ensures kept { result ≡ true → settled ≡ 0 }
+    ensures whole { result ≡ true → forgot ≡ false → first ≡ 0 }
 {
-    forgot || first == 0
+    settled == 0 && (forgot || first == 0)
 }

@@ -1,4 +1,4 @@
-//! Requests that are calls on the hub.
+//! Answers requests that are calls on the hub.
 ghost use Rattle.hub.specs.Steps.{FindsQuery, FindsStream};
 ghost use Rattle.reference.specs.Commands.{Append, Drop, Heartbeat, Take};
 ghost use Rattle.reference.specs.declared.fault.Fault.TheVariants.{UnknownQuery, UnknownStream};

@@ -1,4 +1,4 @@
-//! A client of a hub.
+//! Keeps a client of a hub.
 ghost use Rattle.std.specs.Prelude.{◌≡◌, ◌&&◌, Ok};
 ghost use Rattle.wire.specs.Calls.{call_of};
 ghost use Rattle.wire.specs.Printed.{answer_of};

@@ -1,26 +1,26 @@
-//! The door of a server: its listener, and how many connections are still to serve.
+//! Keeps the door of a server: its listener, and how many connections are still to serve.
 ghost use Rattle.std.specs.Prelude.{◌≡◌, Some, false, true};
 ghost use Rattle.served.specs.Doors.{Admits};
 
 use std::net::{TcpListener, TcpStream};
 
-/// What the client threads share, one at a time.
+/// Holds what the client threads share, one at a time.
 #[derive(Drop)]
 pub(crate) struct Door {
-    /// Where connections come in.
+    /// Listens for connections.
     pub(crate) listener: TcpListener,
-    /// How many are still to serve, without end where that is not said.
+    /// Counts the connections that are still to serve. `None` is without end.
     pub(crate) left: Option<u64>,
-    /// After how many seconds a silent connection is closed, if it is at all.
+    /// Says after how many seconds a silent connection is closed, if it is at all.
     pub(crate) idle: Option<u32>,
-    /// A connection could not be accepted.
+    /// Says whether a connection could not be accepted.
     pub(crate) accept_failed: bool,
-    /// A thread could not be started.
+    /// Says whether a thread could not be started.
     pub(crate) thread_failed: bool,
 }
 
 impl Door {
-    /// Makes a door that lets so many in.
+    /// Makes a door that lets `left` connections in.
     pub(crate) fn new(listener: TcpListener, left: Option<u64>, idle: Option<u32>) -> Door
         ensures { result ≡ record {
           listener = listener;
@@ -39,7 +39,7 @@ impl Door {
         }
     }
 
-    /// One connection, or None where there are no more.
+    /// Accepts one connection. Returns `None` if there are no more.
     pub(crate) fn accept(&mut self) -> Option<TcpStream>
         ensures { Admits self.old result self.new }
     {
@@ -59,7 +59,7 @@ impl Door {
         }
     }
 
-    /// No more connections, since a thread could not be started.
+    /// Lets no more connections in, since a thread could not be started.
     pub(crate) fn lack_thread(&mut self)
         ensures { self.new ≡ record self.old { left = Some 0; thread_failed = true } }
     {

@@ -1,18 +1,18 @@
-//! Drains: which threads run the turns.
-ghost use Rattle.std.specs.Prelude.{⊤};
+//! Drains the hub: says which threads run the turns.
+ghost use Rattle.std.specs.Prelude.{⊤, IfSome};
 ghost use Rattle.reference.specs.World.{IsTurnSize};
 ghost use Rattle.wire.specs.Printed.{Answer, answer_of};
 ghost use Rattle.served.specs.Crossing.{IsShared};
 ghost use Rattle.served.specs.Serving.{ClientDrains, PoolDrains};
 
-use hub::Hub;
+use hub::{Hub, LeaseRest};
 use leases::Leased;
 use reference::Fault;
 use std::alloc::Global;
 use std::sync::Wait;
 use std::thread::Threads;
 use wire::{Reply, done};
-use workers::{NoGate, Pool, bring_back};
+use workers::{MAX_WORKERS, NoGate, Pool, bring_back};
 
 /// Runs the turns of a drain.
 pub(crate) trait Drainer {
@@ -28,7 +28,8 @@ pub(crate) trait Drainer {
         ensures { drains self.now (answer_of result) };
 }
 
-/// Drains by a pool of so many workers, until no turn is left or out.
+/// Drains until no turn is left or out: in place, and then by a pool of `workers` threads if others
+/// hold turns.
 #[derive(Drop)]
 pub(crate) struct PoolDrainer<'a, R> {
     pub(crate) rt: &'a R,
@@ -44,7 +45,12 @@ impl<R: Threads + Wait + Sync> Drainer for PoolDrainer<'_, R> {
     ghost drains = { λ d. PoolDrains d.workers d.rows };
 
     fn drain(&self, hub: &Hub) -> Reply {
-        done(Pool::drain(self.rt, self.alloc, hub, &NoGate, self.workers, self.rows))
+        match run_in_place(self.rt, self.alloc, hub, self.workers, self.rows) {
+            Some(reply) => reply,
+            None => {
+                done(Pool::drain(self.rt, self.alloc, hub, &NoGate, self.workers, self.rows))
+            }
+        }
     }
 }
 
@@ -65,6 +71,30 @@ impl<R: Wait> Drainer for OwnDrainer<'_, R> {
 
     fn drain(&self, hub: &Hub) -> Reply {
         run_turns(self.rt, self.alloc, hub, self.rows)
+    }
+}
+
+// Runs turns in place, under the lock: a turn costs less there than in another thread. Returns the
+// reply, or nothing if a pool has to run what is left.
+fn run_in_place<R: Wait>(rt: &R, alloc: Global, hub: &Hub, workers: u64, rows: u32) -> Option<Reply>
+    requires { IsTurnSize rows }
+    ensures { IfSome result (λ reply. PoolDrains workers rows (answer_of reply)) }
+{
+    if workers == 0 || workers > MAX_WORKERS {
+        return None;
+    }
+    if let Err(Fault::OutOfMemory) = hub.drain(rt, rows) {
+        return Some(Reply::Refused(Fault::OutOfMemory));
+    }
+    match hub.lease_or_rest(rt, rows) {
+        Ok(LeaseRest::Rest) => Some(Reply::Done),
+        Ok(LeaseRest::Turn(turn)) => {
+            if let Err(Fault::OutOfMemory) = bring_back(rt, alloc, hub, turn) {
+                return Some(Reply::Refused(Fault::OutOfMemory));
+            }
+            None
+        }
+        Err(_) => None,
     }
 }
 

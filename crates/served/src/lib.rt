@@ -1,4 +1,4 @@
-//! A hub served: the lines of a source answered by one seat, and a server of many connections.
+//! Serves a hub: one seat answers the lines of a source, and a server has many connections.
 #![tactic(auto)]
 
 mod answer;

@@ -1,4 +1,4 @@
-//! The lines of a source.
+//! Answers the lines of a source.
 ghost use Rattle.std.specs.Prelude.{◌≡◌, IfErr, IfOk, OnErr, OnOk};
 ghost use Rattle.reference.specs.World.{IsTurnSize};
 ghost use Rattle.wire.specs.Devices.{Rises};
@@ -14,17 +14,19 @@ use std::sync::Wait;
 use std::thread::Threads;
 use wire::{ScriptFault, Sink, Source, answer_requests};
 
-/// Answers each request of the source by one line, up to the end of the source, and tells whether
-/// one of them was to forget and was answered `ok`. A drain is run by a pool of so many workers, by
-/// turns of at most `rows` rows, 1 to 1,024, until there is a moment when no operator may take
-/// anything and no turn is out. Where workers are not 1 to 64, each drain is answered `E14`.
+/// Answers each request of the source by one line, up to the end of the source. Returns whether one
+/// of them was to forget and was answered `ok`.
 ///
-/// Each accepted command is a step of the hub: its reply is that of the receipt which the seat then
-/// has. What is known of a reply is what is known of such a step: other seats may call between two.
+/// A drain runs turns of at most `rows` rows, 1 to 1,024. It ends at a moment when no operator may
+/// take anything and no turn is out. The calling thread runs what it can in place. A pool of
+/// `workers` threads runs the rest. If workers are not 1 to 64, each drain is answered `E14`.
+///
+/// Each accepted command is a step of the hub. Its reply is that of the receipt which the seat then
+/// has. Other seats may call between two steps, so no more is known of a reply than of such a step.
 ///
 /// # Errors
-/// `Read` and `Write` only where that device failed in this call, `Memory` only at the start. The
-/// commands that were carried out stand.
+/// `Read` and `Write` only if that device failed in this call, `Memory` only at the start. The
+/// commands that were carried out remain so.
 pub fn run_hub<R: Threads + Wait + Sync, S: Source, K: Sink>(
     rt: &R,
     alloc: Global,
@@ -64,13 +66,14 @@ pub fn run_hub<R: Threads + Wait + Sync, S: Source, K: Sink>(
     answer_requests(alloc, source, sink, &client, seat)
 }
 
-/// Answers one connection until its input ends or a device fails, and tells whether one of its
-/// requests was to forget and was answered `ok`. A drain is run by this thread, by turns of at most
-/// `rows` rows, 1 to 1,024, until there is a moment when no operator may take anything. Turns of
-/// other threads may still be out then.
+/// Answers one connection until its input ends or a device fails. Returns whether one of its
+/// requests was to forget and was answered `ok`.
+///
+/// A drain runs turns of at most `rows` rows, 1 to 1,024, in this thread. It ends at a moment when
+/// no operator may take anything. Turns of other threads may still be out then.
 ///
 /// # Errors
-/// As of `run_hub`.
+/// Those of `run_hub`.
 pub fn serve_connection<R: Threads + Wait + Sync, S: Source, K: Sink>(
     rt: &R,
     alloc: Global,

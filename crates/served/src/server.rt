@@ -1,9 +1,8 @@
-//! A server: client threads accept connections in turn, and workers run turns.
+//! Runs a server: client threads accept connections in turn, and workers run turns.
 ghost use Rattle.std.specs.Prelude.{◌≡◌, ◌≤◌, ◌⊎◌, OnErr};
 ghost use Rattle.hub.specs.declared.locked.TheConstants.{MAX_SEATS};
 ghost use Rattle.served.specs.Errors.{IsTold, IsToldAddress, accept_line, close_line};
 ghost use Rattle.served.specs.Errors.{memory_line, thread_line};
-ghost use Rattle.served.specs.Serving.{Keeps};
 
 use crate::door::Door;
 use crate::lines::serve_connection;
@@ -18,13 +17,13 @@ use std::{io, thread};
 use wire::{ReaderSource, Sink, WriterSink, put};
 use workers::{NoGate, work};
 
-/// The rows of a turn.
+/// Limits the rows of a turn.
 const ROWS: u32 = 256;
 
-/// The body of the server after its listener was bound: tells where it listens, answers
-/// connections, closes the hub, and gives its status. 0 where nothing failed; 1 where a connection
-/// could not be accepted, or the history and the seats differ at the end; 3 where memory is refused
-/// at the start or a thread could not be started. What is not 0 is said on `errors`, in one line.
+/// Runs the server once its listener is bound: says where it listens, answers connections, closes
+/// the hub, and returns its status. The status is 0 if nothing failed. It is 1 if a connection
+/// could not be accepted, or if the history and the seats differ at the end. It is 3 when out of
+/// memory at the start, or if a thread could not be started. One line on `errors` says what failed.
 pub fn serve<R: Threads + Wait + Sync, O: Sink, E: Sink>(
     rt: &R,
     alloc: Global,
@@ -83,8 +82,8 @@ fn lack_memory<E: Sink>(errors: &mut E) -> u8
     3
 }
 
-// Says where it listens. A write that fails is ignored, as is an address that the system does not
-// tell. An error says that memory was refused for the line.
+// Says where it listens. A write that fails is ignored, and so is an address that the system does
+// not give. `AllocError` when out of memory for the line.
 fn tell_address<O: Sink>(
     alloc: Global,
     listener: &TcpListener,
@@ -102,8 +101,8 @@ fn tell_address<O: Sink>(
     Ok(())
 }
 
-// Starts the threads while nobody may come in, and gives the seats back once the clients have
-// ended. None where memory is refused before the first is started.
+// Starts the threads while nobody may come in, and returns the seats once the clients have ended.
+// Returns `None` when out of memory before the first is started.
 fn run_threads<R: Threads + Wait + Sync>(
     rt: &R,
     alloc: Global,
@@ -142,8 +141,9 @@ fn run_threads<R: Threads + Wait + Sync>(
     })
 }
 
-// Serves connections until there are no more, and gives the seat back. A device that fails, or a
-// connection that cannot be set up, ends that connection alone.
+// Serves connections until there are no more, and returns the seat. A device that fails, or a
+// connection that cannot be set up, ends only that connection. After each, the seat settles: its
+// receipts are compared with the history and let go. Those that differ stay for `close`.
 fn client<R: Threads + Wait + Sync>(
     rt: &R,
     alloc: Global,
@@ -151,7 +151,7 @@ fn client<R: Threads + Wait + Sync>(
     hub: &Hub,
     mut seat: Seat,
 ) -> Seat
-    ensures { Keeps seat result }
+    ensures { result.number ≡ seat.number }
 {
     for _ in rt.forever() {
         let mut held = door.lock(rt);
@@ -167,11 +167,12 @@ fn client<R: Threads + Wait + Sync>(
         let mut source = ReaderSource::new(&stream);
         let mut sink = WriterSink::new(&stream);
         let _ = serve_connection(rt, alloc, &mut source, &mut sink, hub, &mut seat, ROWS);
+        let _ = hub.settle(rt, &mut seat);
     }
     seat
 }
 
-// Lets replies leave at once, and lets reads and writes fail that wait for so many seconds.
+// Lets replies leave at once. Lets reads and writes fail that wait for `idle` seconds.
 fn prepare(stream: &TcpStream, idle: Option<u32>) -> io::Result<()> {
     stream.set_nodelay(true)?;
     let limit = idle.map(|seconds| Duration::from_secs(seconds as u64));

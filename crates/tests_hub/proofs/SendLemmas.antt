@@ -12,4 +12,4 @@ pub receipt_send : IsSend receipt.the_row
 receipt_send = view_send receipt_inside.the_row _ _ receipt.the_view _ (declared_send receipt_inside.the_type (search sendable depth 12, (entry_send, tt)))
 
 pub seat_send : IsSend seat.the_row
-seat_send = view_send seat_inside.the_row _ _ seat.the_view _ (declared_send seat_inside.the_type (search sendable depth 12, (search (sendable, crosses, receipt_send) depth 12, (search sendable depth 12, (search sendable depth 12, tt)))))
+seat_send = view_send seat_inside.the_row _ _ seat.the_view _ (declared_send seat_inside.the_type (search sendable depth 12, (search (sendable, crosses, receipt_send) depth 12, (search sendable depth 12, (search sendable depth 12, (search sendable depth 12, tt))))))

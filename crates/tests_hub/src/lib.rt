@@ -24,6 +24,8 @@ mod seats;
 #[cfg(test)]
 mod server;
 #[cfg(test)]
+mod settles;
+#[cfg(test)]
 mod threads;
 #[cfg(test)]
 mod wakes;

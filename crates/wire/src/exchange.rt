@@ -21,6 +21,8 @@ use crate::request::{Request, WireFault};
 use std::alloc::Global;
 
 /// Answers requests over a state that they change, such as an engine or a hub's seat.
+///
+/// Example: `a_responder_answers_requests` in crates/uses/src/script.rt.
 pub trait Responder<T> {
     // What a request may be answered, and the state that it leaves.
     ghost replies: { Self → T → Result Call WireFault → Answer → T → Type 0 };
@@ -106,6 +108,8 @@ fn add_answer<K: Sink, T, A: Responder<T>>(
 /// # Errors
 /// `Read` or `Write` only if that device failed in this call. `Memory` only at the start; then
 /// nothing has changed. The requests that were carried out keep their effect.
+///
+/// Example: `a_responder_answers_requests` in crates/uses/src/script.rt.
 pub fn answer_requests<S: Source, K: Sink, T, A: Responder<T>>(
     alloc: Global,
     source: &mut S,

@@ -64,6 +64,8 @@ fn short_request(alloc: Global, line: &[u8]) -> Result<Request, WireFault>
 /// # Errors
 /// `LineTooLong` if it has over 65,536 bytes, `NotJson` if it is no JSON text, `BadRequest` if its
 /// value is no request. `OutOfMemory` says nothing about the line.
+///
+/// Example: `a_request_is_answered` in crates/uses/src/script.rt.
 pub fn read_request(alloc: Global, line: &[u8]) -> Result<Request, WireFault>
     ensures { Reads (asked_in line.now) result }
 {

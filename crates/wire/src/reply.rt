@@ -219,6 +219,8 @@ pub(crate) fn add_reply<K: Sink>(sink: &mut K, page: &mut Page, reply: &Reply)
 ///
 /// # Errors
 /// `ScriptFault::Write` if the sink failed; then it has taken a prefix of the line.
+///
+/// Example: `a_request_is_answered` in crates/uses/src/script.rt.
 pub fn write_reply<K: Sink>(sink: &mut K, reply: &Reply) -> Result<(), ScriptFault>
     ensures written { Puts (K.taken sink.old) (K.taken sink.new) (K.failures sink.old)
         (K.failures sink.new) result (line_of (answer_of reply.now)) }

@@ -129,6 +129,8 @@ fn show_plan<E: Answering>(engine: &E, query: &str) -> Reply
 ///
 /// Forgets rows that no later answer needs, at a `forget` and, if that pays, after a drain. No
 /// later call can distinguish the world from the machine's.
+///
+/// Example: `a_request_is_answered` in crates/uses/src/script.rt.
 pub fn answer<E: Answering>(engine: &mut E, request: &Request, rows: u32) -> Reply
     requires rows { IsTurnSize rows }
     ensures answers { (NeedsWhole (call_of request.now) → E.is_whole engine.old)
@@ -217,6 +219,8 @@ fn respond<K: Sink, E: Answering>(
 /// `Read` or `Write` if that device failed. Then a prefix of that text is written, and the engine
 /// is as the calls carried out left it. `Memory` if there was none for the line's buffers, before
 /// anything was read; then nothing has changed.
+///
+/// Example: `a_script_runs_on_an_engine` in crates/uses/src/script.rt.
 pub fn run_script<S: Source, K: Sink, E: Answering>(
     alloc: Global,
     source: &mut S,

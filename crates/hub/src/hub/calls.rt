@@ -5,7 +5,7 @@ ghost use Rattle.reference.specs.CallViews.{texts_of, handed_of};
 ghost use Rattle.reference.specs.Commands.{Declare, Register, Append, Heartbeat, Take, Drop};
 ghost use Rattle.reference.specs.Replies as replies;
 ghost use Rattle.reference.specs.Replies.{Number, Rows};
-ghost use Rattle.hub.specs.Steps.{Spurned, Took};
+ghost use Rattle.hub.specs.Steps.{PlainLocked, Settles, Spurned, Took};
 
 use crate::hub::Hub;
 use crate::seat::Seat;
@@ -21,6 +21,8 @@ impl Hub {
     /// # Errors
     /// `HistoryFull`, then `Foreign`, then those of `Answering::stream`. After any of them nothing
     /// has changed.
+    ///
+    /// Example: `a_hub_answers_two_seats` in crates/uses/src/hubs.rt.
     pub fn stream<R: Wait>(
         &self,
         rt: &R,
@@ -44,6 +46,8 @@ impl Hub {
     /// # Errors
     /// `HistoryFull`, then `Foreign`, then those of `Answering::query`. After any of them nothing
     /// has changed.
+    ///
+    /// Example: `a_hub_answers_two_seats` in crates/uses/src/hubs.rt.
     pub fn query<R: Wait>(
         &self,
         rt: &R,
@@ -67,6 +71,8 @@ impl Hub {
     /// # Errors
     /// `HistoryFull`, then `Foreign`, then those of `Answering::append`. After any of them nothing
     /// has changed.
+    ///
+    /// Example: `a_hub_answers_two_seats` in crates/uses/src/hubs.rt.
     pub fn append<R: Wait>(
         &self,
         rt: &R,
@@ -87,6 +93,8 @@ impl Hub {
     /// # Errors
     /// `HistoryFull`, then `Foreign`, then those of `Answering::heartbeat`. After any of them
     /// nothing has changed.
+    ///
+    /// Example: `a_hub_answers_two_seats` in crates/uses/src/hubs.rt.
     pub fn heartbeat<R: Wait>(
         &self,
         rt: &R,
@@ -112,6 +120,8 @@ impl Hub {
     /// # Errors
     /// `HistoryFull`, then `Foreign`, then those of `Answering::take`. After any of them nothing
     /// has changed.
+    ///
+    /// Example: `a_hub_answers_two_seats` in crates/uses/src/hubs.rt.
     pub fn take<R: Wait>(
         &self,
         rt: &R,
@@ -132,6 +142,8 @@ impl Hub {
     /// # Errors
     /// `HistoryFull`, then `Foreign`, then `UnknownQuery`. `OutOfMemory` when out of memory for the
     /// entry and the receipt. After any of them nothing has changed.
+    ///
+    /// Example: `a_query_of_a_hub_is_dropped` in crates/uses/src/hubs.rt.
     pub fn drop_query<R: Wait>(&self, rt: &R, seat: &mut Seat, query: u64) -> Result<Receipt, Fault>
         ensures ok { IfOk result (λ r. (r.entry.reply ≡ replies.Done)
             × Took seat.old (Drop query) r seat.new) }
@@ -144,5 +156,18 @@ impl Hub {
             self.moved.notify_all();
         }
         answer
+    }
+
+    /// Compares the receipts that the seat holds with the history, by value, and lets them go.
+    /// Returns `false` if they differ; then nothing has changed. Takes no memory, and looks only at
+    /// the seat's own entries.
+    ///
+    /// Receipts of entries that an opening replaces are compared by their numbers.
+    pub fn settle<R: Wait>(&self, rt: &R, seat: &mut Seat) -> bool
+        ensures { (old : PlainLocked) × (new : PlainLocked)
+            × Settles old seat.old result new seat.new }
+    {
+        let mut locked = self.locked.lock(rt);
+        locked.settle(seat)
     }
 }

@@ -13,6 +13,8 @@ impl Hub {
     ///
     /// # Errors
     /// `UnknownQuery` if there is no such query, or it was dropped.
+    ///
+    /// Example: `anyone_looks_without_a_seat` in crates/uses/src/hubs.rt.
     pub fn waiting<R: Wait>(&self, rt: &R, query: u64) -> Result<usize, Fault>
         ensures { (l : PlainLocked) × SeesWaiting l query result }
     {
@@ -24,6 +26,8 @@ impl Hub {
     /// # Errors
     /// `UnknownQuery` if there is no such query, or it was dropped; `OutOfMemory` when out of
     /// memory.
+    ///
+    /// Example: `anyone_looks_without_a_seat` in crates/uses/src/hubs.rt.
     pub fn pending<R: Wait>(&self, rt: &R, query: u64) -> Result<Vec<u128>, Fault>
         ensures { (l : PlainLocked) × SeesPending (λ v. v.items) l query result }
     {
@@ -35,6 +39,8 @@ impl Hub {
     /// # Errors
     /// `UnknownQuery` if there is no such query, or it was dropped; `OutOfMemory` when out of
     /// memory.
+    ///
+    /// Example: `anyone_looks_without_a_seat` in crates/uses/src/hubs.rt.
     pub fn slopes<R: Wait>(&self, rt: &R, query: u64) -> Result<Vec<(Kind, Slope)>, Fault>
         ensures { (l : PlainLocked) × SeesSlopes (λ v. v.items) l query result }
     {
@@ -42,6 +48,8 @@ impl Hub {
     }
 
     /// Returns the number of the stream with this name.
+    ///
+    /// Example: `anyone_looks_without_a_seat` in crates/uses/src/hubs.rt.
     pub fn stream_named<R: Wait>(&self, rt: &R, name: &str) -> Option<u64>
         ensures { (l : PlainLocked) × FindsStream l name.now result }
     {
@@ -49,6 +57,8 @@ impl Hub {
     }
 
     /// Returns the number of the query with this name that was not dropped.
+    ///
+    /// Example: `anyone_looks_without_a_seat` in crates/uses/src/hubs.rt.
     pub fn query_named<R: Wait>(&self, rt: &R, name: &str) -> Option<u64>
         ensures { (l : PlainLocked) × FindsQuery l name.now result }
     {

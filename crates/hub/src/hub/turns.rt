@@ -13,6 +13,8 @@ use turn::Done;
 
 impl Hub {
     /// Hands out a turn of an operator of greatest slope, as `Engine::lease` does.
+    ///
+    /// Example: `a_worker_runs_a_turn` in crates/uses/src/hubs.rt.
     pub fn lease<R: Wait>(&self, rt: &R, rows: u32) -> Result<Leased, Fault>
         ensures { (old : PlainLocked) × (new : PlainLocked) × Hands old rows result new }
     {
@@ -20,6 +22,8 @@ impl Hub {
     }
 
     /// Takes back a turn that was run, as `Engine::finish` does.
+    ///
+    /// Example: `a_worker_runs_a_turn` in crates/uses/src/hubs.rt.
     pub fn finish<R: Wait>(&self, rt: &R, done: Done) -> Result<(), Fault>
         ensures { (old : PlainLocked) × (new : PlainLocked) × Ends old done result new }
     {
@@ -31,6 +35,8 @@ impl Hub {
     }
 
     /// Gives up the turn with this number, as `Engine::abandon` does: it does not come back.
+    ///
+    /// Example: `a_worker_gives_a_turn_up` in crates/uses/src/hubs.rt.
     pub fn abandon<R: Wait>(&self, rt: &R, lease: u64) -> Result<(), Fault>
         ensures { (old : PlainLocked) × (new : PlainLocked) × GivesUp old lease result new }
     {
@@ -48,6 +54,8 @@ impl Hub {
     /// `BadLimit` if `rows` is not 1 to 1,024. `TooManyLeases` if an operator is ready while 64
     /// turns are out or no number of a turn is left. `OutOfMemory` when out of memory. What ran
     /// before the fault stays.
+    ///
+    /// Example: `a_hub_answers_two_seats` in crates/uses/src/hubs.rt.
     pub fn drain<R: Wait>(&self, rt: &R, rows: u32) -> Result<(), Fault>
         ensures { (old : PlainLocked) × (new : PlainLocked) × Drains old rows result new }
     {
@@ -63,6 +71,8 @@ impl Hub {
     ///
     /// # Errors
     /// `OutOfMemory` when out of memory; then nothing has changed.
+    ///
+    /// Example: `a_forget_restarts_the_history` in crates/uses/src/hubs.rt.
     pub fn forget<R: Wait>(&self, rt: &R) -> Result<(), Fault>
         ensures { (old : PlainLocked) × (new : PlainLocked) × Forgets old result new }
     {
@@ -70,6 +80,8 @@ impl Hub {
     }
 
     /// Makes `lease_wait` answer `Ended` from here on, also where it waits already.
+    ///
+    /// Example: `a_worker_waits_until_the_end` in crates/uses/src/hubs.rt.
     pub fn end<R: Wait>(&self, rt: &R) {
         let mut locked = self.locked.lock(rt);
         locked.end();
@@ -81,6 +93,8 @@ impl Hub {
     ///
     /// # Errors
     /// Those of `Engine::lease`, without a wait.
+    ///
+    /// Example: `a_worker_waits_until_the_end` in crates/uses/src/hubs.rt.
     pub fn lease_wait<R: Wait>(&self, rt: &R, rows: u32) -> Result<LeaseWait, Fault>
         ensures ok { IfOk result (λ l. MatchLeaseWait l
             (λ t. (old : PlainLocked) × (new : PlainLocked) × Lends old rows t new)
@@ -103,6 +117,8 @@ impl Hub {
     ///
     /// # Errors
     /// Those of `Engine::lease`, without a wait.
+    ///
+    /// Example: `a_worker_runs_turns_to_rest` in crates/uses/src/hubs.rt.
     pub fn lease_or_rest<R: Wait>(&self, rt: &R, rows: u32) -> Result<LeaseRest, Fault>
         ensures ok { IfOk result (λ l. MatchLeaseRest l
             (λ t. (old : PlainLocked) × (new : PlainLocked) × Lends old rows t new)

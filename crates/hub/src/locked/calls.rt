@@ -163,6 +163,7 @@ impl Locked {
         let (told_room, logged_room, kept_room) = rooms(self.alloc, count)?;
         self.history.reserve(1)?;
         seat.receipts.reserve(1)?;
+        self.ledger.reserve(seat.number)?;
         let reply = carry_out(&mut self.engine, told_command.deref())?;
         let logged = Entry::new(seat.number, logged_command, reply.copy_into(logged_room));
         self.history.push_reserved(logged);
@@ -170,6 +171,7 @@ impl Locked {
         let receipt = Receipt::new(number, kept);
         seat.receipts.push_reserved(receipt);
         seat.own_reach = number + 1;
+        self.ledger.note(seat.number, number);
         let told = Entry::new(seat.number, told_command, reply.copy_into(told_room));
         let answer = Receipt::new(number, told);
         Ok((reply, answer))

@@ -153,6 +153,8 @@ impl Answering for Engine {
     ///
     /// # Errors
     /// `OutOfMemory` when out of memory; then nothing has changed.
+    ///
+    /// Example: `a_forget_keeps_what_queries_need` in crates/uses/src/engine.rt.
     fn forget(&mut self) -> Result<(), Fault>
         ensures alike { IsWhole self.old
             → OnOk result (Alike (world_in self.old) (world_in self.new)) }

@@ -16,6 +16,8 @@ impl Engine {
     ///
     /// # Errors
     /// `UnknownStream` if there is no such stream.
+    ///
+    /// Example: `a_forget_keeps_what_queries_need` in crates/uses/src/engine.rt.
     pub fn kept(&self, stream: u64) -> Result<u64, Fault>
         ensures { result ≡ kept_at (engine_in self.now).machine stream }
     {
@@ -30,6 +32,8 @@ impl Engine {
     ///
     /// # Errors
     /// `OutOfMemory` when out of memory.
+    ///
+    /// Example: `an_opening_shows_what_a_forget_leaves` in crates/uses/src/engine.rt.
     pub fn opening(&self) -> Result<Opening, Fault>
         ensures opening { IfOk result (λ o.
             opening_in o ≡ (forgotten (engine_in self.now)).machine) }

@@ -14,6 +14,8 @@ use std::alloc::Global;
 
 impl Engine {
     /// Makes an engine with no stream and no query. Takes no memory.
+    ///
+    /// Example: `an_engine_answers_a_query` in crates/uses/src/engine.rt.
     pub fn new(alloc: Global) -> Engine
         ensures empty { engine_in result ≡ empty_engine }
         ensures world { world_in result ≡ world.empty }
@@ -26,6 +28,8 @@ impl Engine {
     }
 
     /// Returns how many turns are out. Takes no memory.
+    ///
+    /// Example: `a_turn_goes_out_and_comes_back` in crates/uses/src/engine.rt.
     pub fn leases_out(&self) -> usize
         ensures { result ≡ length (engine_in self.now).leases }
     {
@@ -37,6 +41,8 @@ impl Engine {
     ///
     /// # Errors
     /// `UnknownQuery` if there is no such query, or it was dropped.
+    ///
+    /// Example: `a_take_returns_the_first_answers` in crates/uses/src/engine.rt.
     pub fn waiting(&self, query: u64) -> Result<usize, Fault>
         ensures waiting { WaitsAt (engine_in self.now) query result }
         ensures promises { KeepsItsPromises (engine_in self.now) }
@@ -51,6 +57,8 @@ impl Engine {
     /// # Errors
     /// `UnknownQuery` if there is no such query, or it was dropped; `OutOfMemory` when out of
     /// memory.
+    ///
+    /// Example: `queues_hold_rows_and_ticks` in crates/uses/src/engine.rt.
     pub fn pending(&self, query: u64) -> Result<Vec<u128>, Fault>
         ensures { IsPending (λ v. v.items) (engine_in self.now) query result }
     {

@@ -1,22 +1,23 @@
-//! Drains: runs turns in place until nothing is ready.
-ghost use Rattle.std.specs.Prelude.{◌≡◌, ◌≢◌, ◌↔◌, ◌<◌, Err, IfErr, IfOk, IsTrue, None, OnErr};
-ghost use Rattle.std.specs.Prelude.{OnOk, Some};
+//! Drains: runs turns in place until nothing is ready, or so many have run.
+ghost use Rattle.std.specs.Prelude.{◌≡◌, ◌≢◌, ◌↔◌, ◌<◌, ◌≤◌, ◌+◌, Err, IfErr, IfOk, IsTrue, None};
+ghost use Rattle.std.specs.Prelude.{Ok, OnErr, OnOk, Some, false, true};
 ghost use Rattle.reference.specs.World.{drain_fault};
-ghost use Rattle.reference.specs.declared.fault.Fault.TheVariants.{OutOfMemory};
+ghost use Rattle.reference.specs.declared.fault.Fault.TheVariants.{BadLimit, OutOfMemory};
+ghost use Rattle.reference.specs.declared.fault.Fault.TheVariants.{TooManyLeases};
 ghost use Rattle.run_queue.specs.Slots.{Stands, first_of};
 ghost use Rattle.laws_queries.specs.Queries.{PlainQuery};
 ghost use Rattle.laws_engine.specs.Engines.{Running};
 ghost use Rattle.leases.specs.Applied.{GivesNothing, IsAbove};
 ghost use Rattle.leases.specs.Asked.{HasOperatorAt};
 ghost use Rattle.leases.specs.Drains.{HasWantedBehind, LeavesOthers, OneOrMoreHaveRun, RunsFirst};
-ghost use Rattle.leases.specs.Drains.{RunsTurns};
+ghost use Rattle.leases.specs.Drains.{RunsTurns, as_drained};
 ghost use Rattle.leases.specs.Readers.{next_for, with_slots, with_update};
 ghost use Rattle.leases.specs.Runs.{HasRunIn, HasRunOn, HasStoppedIn, HasStoppedOn, MayRunIn};
 ghost use Rattle.leases.specs.Runs.{MayRunOn};
 ghost use Rattle.leases.specs.Shown.{engine_in};
 ghost use Rattle.leases.specs.Sound.{IsSound};
 ghost use Rattle.leases.specs.Told.{GoesOn, IsNoSteeper, MayTellBoth, told, told_state};
-ghost use Rattle.leases.specs.Turns.{lease_fault};
+ghost use Rattle.leases.specs.Turns.{HasReady, lease_fault};
 ghost use Rattle.leases.specs.Views.{remains_of};
 ghost use Rattle.leases.specs.Whole.{IsWhole};
 
@@ -57,48 +58,104 @@ impl State {
         ensures sound { IsSound self.new }
     {
         'turns: loop {
-            if !self.run_first(rows)? {
+            if !self.run_first(rows, LEASE_NUMBERS)? {
                 return Ok(());
             }
         }
     }
 
-    /// Runs turns of at most `rows` rows of an operator of greatest slope, if any may take
-    /// something. Returns whether any might.
-    fn run_first(&mut self, rows: u32) -> Result<bool, Fault>
+    /// Runs at most `turns` turns of at most `rows` rows. Returns whether an operator may still
+    /// take something.
+    pub(crate) fn drain_some(&mut self, rows: u32, turns: u64) -> Result<bool, Fault>
+        requires { IsSound self.old }
+        ensures runs { RunsTurns (engine_in self.old) rows (as_drained result)
+            (engine_in self.new) }
+        ensures others { LeavesOthers (engine_in self.old) (as_drained result)
+            (engine_in self.new) }
+        ensures most { self.new.next ≤ self.old.next + turns }
+        ensures more { result ≡ Ok true → HasReady (engine_in self.new) }
+        ensures last { result ≡ Ok true → self.new.next ≡ self.old.next + turns }
+        ensures idle { result ≡ Ok false → first_of (engine_in self.new).slots ≡ None }
+        ensures fewer { result ≡ Err TooManyLeases → self.new.next < self.old.next + turns }
+        ensures looks { turns ≡ 0 → IfErr result (λ fault. fault ≡ BadLimit) }
+        ensures whole { IsWhole self.old → result ≢ Err OutOfMemory → IsWhole self.new }
+        ensures sound { IsSound self.new }
+    {
+        if let Some(fault) = turn_fault(rows) {
+            return Err(fault);
+        }
+        let until = self.next.saturating_add(turns);
+        self.run_until(rows, until)
+    }
+
+    /// Runs one turn after the other, each with a number below `until`, until no operator may take
+    /// anything. Returns whether one still may.
+    fn run_until(&mut self, rows: u32, until: u64) -> Result<bool, Fault>
         requires sound { IsSound self.old }
         requires accepted { drain_fault rows ≡ None }
+        requires within { self.old.next ≤ until }
+        ensures runs { RunsTurns (engine_in self.old) rows (as_drained result)
+            (engine_in self.new) }
+        ensures others { LeavesOthers (engine_in self.old) (as_drained result)
+            (engine_in self.new) }
+        ensures most { self.new.next ≤ until }
+        ensures more { result ≡ Ok true → HasReady (engine_in self.new) }
+        ensures last { result ≡ Ok true → self.new.next ≡ until }
+        ensures idle { result ≡ Ok false → first_of (engine_in self.new).slots ≡ None }
+        ensures fewer { result ≡ Err TooManyLeases → self.new.next < until }
+        ensures looks { OnErr result (self.old.next < until) }
+        ensures whole { IsWhole self.old → result ≢ Err OutOfMemory → IsWhole self.new }
+        ensures sound { IsSound self.new }
+    {
+        'turns: while self.next < until {
+            if !self.run_first(rows, until.min(LEASE_NUMBERS))? {
+                return Ok(false);
+            }
+        }
+        Ok(self.slots.first().is_some())
+    }
+
+    /// Runs turns of at most `rows` rows of an operator of greatest slope, with numbers below
+    /// `until`, if any may take something. Returns whether any might.
+    fn run_first(&mut self, rows: u32, until: u64) -> Result<bool, Fault>
+        requires sound { IsSound self.old }
+        requires accepted { drain_fault rows ≡ None }
+        requires few { until ≤ LEASE_NUMBERS }
+        requires left { self.old.next < LEASE_NUMBERS → self.old.next < until }
         ensures runs { RunsFirst (engine_in self.old) rows result (engine_in self.new) }
+        ensures most { self.old.next ≤ until → self.new.next ≤ until }
         ensures sound { IsSound self.new }
     {
         match self.next_slot()? {
             Some(slot) => {
-                self.run_slot(&slot, rows as usize)?;
+                self.run_slot(&slot, rows as usize, until)?;
                 Ok(true)
             },
             None => Ok(false),
         }
     }
 
-    /// Runs turns of the first slot in place, with the next numbers. Nobody can see the turns
-    /// meanwhile, so none is made.
+    /// Runs turns of the first slot in place, with the next numbers, below `until`. Nobody can see
+    /// the turns meanwhile, so none is made.
     ///
     /// # Errors
     /// `AllocError` when out of memory. The turns before stay. The turn that needed the memory did
     /// nothing, or it broke its query. The error does not say which: the query shows it.
-    fn run_slot(&mut self, slot: &Slot, rows: usize) -> Result<(), AllocError>
+    fn run_slot(&mut self, slot: &Slot, rows: usize, until: u64) -> Result<(), AllocError>
         requires sound { IsSound self.old }
         requires first { first_of self.old.slots ≡ Some slot.now }
         requires some { 0 < rows }
         requires allowed { lease_fault (engine_in self.old) rows ≡ None }
-        requires numbers { self.old.next < LEASE_NUMBERS }
+        requires few { until ≤ LEASE_NUMBERS }
+        requires numbers { self.old.next < until }
         ensures ok { OnOk result (OneOrMoreHaveRun rows (engine_in self.old) (engine_in self.new)) }
         ensures err { OnErr result
             (HasWantedBehind rows (engine_in self.old) (engine_in self.new)) }
+        ensures most { self.new.next ≤ until }
         ensures sound { IsSound self.new }
     {
         let above = self.above(slot.query(), slot.operator());
-        let next = self.run_while_first(slot, &above, rows)?;
+        let next = self.run_while_first(slot, &above, rows, until)?;
         self.update_slots(slot, next, &above);
         Ok(())
     }
@@ -107,8 +164,9 @@ impl State {
     /// what its operator may take next.
     ///
     /// There is at least one turn. More follow as long as the slot, with what its operator may take
-    /// next, would come first again. It would if that is of the same instant, and the slope of the
-    /// operator above is no greater. What a turn emits is of its own instant.
+    /// next, would come first again, and the next number is below `until`. It would if that is of
+    /// the same instant, and the slope of the operator above is no greater. What a turn emits is of
+    /// its own instant.
     ///
     /// # Errors
     /// `AllocError` when out of memory; the turns before stay. If the last turn had taken nothing
@@ -118,13 +176,15 @@ impl State {
         slot: &Slot,
         above: &Option<Slot>,
         rows: usize,
+        until: u64,
     ) -> Result<Option<(Side, u64)>, AllocError>
         requires sound { IsSound self.old }
         requires first { first_of self.old.slots ≡ Some slot.now }
         requires over { IsAbove (engine_in self.old) slot.now.query slot.now.operator above.now }
         requires some { 0 < rows }
         requires allowed { lease_fault (engine_in self.old) rows ≡ None }
-        requires numbers { self.old.next < LEASE_NUMBERS }
+        requires few { until ≤ LEASE_NUMBERS }
+        requires numbers { self.old.next < until }
         ensures next { IfOk result (λ next.
             next ≡ next_for (engine_in self.new) slot.now.query slot.now.operator) }
         ensures ok { OnOk result (OneOrMoreHaveRun rows (engine_in self.old)
@@ -133,6 +193,7 @@ impl State {
         ensures may_tell { OnOk result (MayTellBoth self.new slot.now above.now) }
         ensures err { OnErr result
             (HasWantedBehind rows (engine_in self.old) (engine_in self.new)) }
+        ensures most { self.new.next ≤ until }
         ensures sound { OnErr result (IsSound self.new) }
     {
         let query = slot.query();
@@ -155,23 +216,23 @@ impl State {
                 },
             }
             let next = self.next_for(query, operator);
-            if !self.goes_on(slot, next, stays) {
+            if !self.goes_on(slot, next, stays, until) {
                 return Ok(next);
             }
             turn = slot.with_next(next);
         }
     }
 
-    /// Returns whether the slot, with what its operator may take next, would come first again, and
-    /// a number is left for one more turn. `stays` says whether the operator above has no greater
-    /// slope.
-    fn goes_on(&self, slot: &Slot, next: Option<(Side, u64)>, stays: bool) -> bool
-        ensures { IsTrue result ↔ GoesOn self.now slot.now next stays }
+    /// Returns whether the slot would come first again, with what its operator may take next. A
+    /// number below `until` has to be left for one more turn. `stays` says whether the operator
+    /// above has no greater slope.
+    fn goes_on(&self, slot: &Slot, next: Option<(Side, u64)>, stays: bool, until: u64) -> bool
+        ensures { IsTrue result ↔ GoesOn self.now slot.now next stays until }
     {
         if !stays {
             return false;
         }
-        if LEASE_NUMBERS <= self.next {
+        if until <= self.next {
             return false;
         }
         slot.goes_on(next)

@@ -114,7 +114,7 @@ impl State {
     }
 
     /// Ends the turn with this number. The slot of its operator gets what that may take next. Then
-    /// so does the slot above, if the turn fed it.
+    /// so does the slot above, if one is given.
     pub(crate) fn end_turn(&mut self, number: u64, slot: Slot, above: Option<Slot>)
         requires { MayTellBoth self.old slot above }
         ensures ended { HasEnded (engine_in self.old) number slot above (engine_in self.new) }

@@ -84,6 +84,8 @@ impl Answering for Plain {
     }
 
     /// Keeps everything, since any answer may be evaluated again.
+    ///
+    /// Example: `the_plain_engine_forgets_nothing` in crates/uses/src/plain.rt.
     fn forget(&mut self) -> Result<(), Fault> {
         Ok(())
     }

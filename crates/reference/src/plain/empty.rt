@@ -11,6 +11,8 @@ use std::alloc::Global;
 
 impl Plain {
     /// Returns an engine with no stream and no query. Takes no memory, and never fails.
+    ///
+    /// Example: `the_plain_engine_answers_a_query` in crates/uses/src/plain.rt.
     pub fn new(alloc: Global) -> Result<Plain, Fault>
         ensures empty { IfOk result (λ p. world_of p ≡ world.empty) }
         ensures succeeds { IsOk result }

@@ -1,9 +1,11 @@
-use Rattle.std.proofs.Common.{◌≡◌, ◌+◌, ◌≤◌, ◌<◌, ◌^◌, length, sym, ap, subst, ◌∙◌, arith, rules}
+use Rattle.std.proofs.Common.{◌≡◌, ◌+◌, ◌≤◌, ◌<◌, ◌^◌, length, max, sym, ap, subst, ◌∙◌, arith, rules}
 use Rattle.leases.specs.Openings.{opening_in}
 use Rattle.leases.specs.Shown.{engine_in}
 use Rattle.hub.proofs.AcceptingLemmas.{accepting, entry_is, longer, receipt_is}
 use Rattle.hub.specs.Calls.{Answered}
-use Rattle.hub.specs.Steps.{engine_at}
+use Rattle.hub.specs.Ledgers.{ledger_in}
+use Rattle.hub.specs.Steps.{engine_at, next_number}
+use Rattle.hub.proofs.KeepingLemmas.{many_next, noted_is, noted_next}
 use Rattle.hub.proofs.ReplayLemmas.{fits_next, held_next, replays_next, rising_next}
 use Rattle.histories.specs.Histories.{Replays}
 use Rattle.hub.specs.Seats.{held}
@@ -22,16 +24,22 @@ invariant_of-self-2 c =
       c.self.invariant.2,
       fits_next c.self.inside.first c.self.inside.history.items c.reserve.new.self.items c.push_reserved.new.self.items c.new-logged.result c.push_reserved.ensures.items c.in_ok-reserve.ensures.items room,
       c.self.invariant.4,
+      c.self.invariant.5,
+      many_next (ledger_in c.note.new.self) (ledger_in c.reserve-3.new.self) (ledger_in c.self.inside.ledger) c.seat.inside.number c.in_ok-number.number c.self.inside.seats c.note.ensures c.in_ok-reserve-3.ensures.same c.self.invariant.6,
+      noted_next (ledger_in c.note.new.self) (ledger_in c.reserve-3.new.self) (ledger_in c.self.inside.ledger) c.self.inside.first c.self.inside.history.items c.reserve.new.self.items c.push_reserved.new.self.items
+          c.new-logged.result c.seat.inside.number c.in_ok-number.number c.note.ensures c.in_ok-reserve-3.ensures.same (ap (λ e. e.seat) c.new-logged.ensures) (omega (arith, first, long, c.in_ok-number.ensures.ok.0))
+          c.push_reserved.ensures.items c.in_ok-reserve.ensures.items c.self.invariant.7,
     )
 
 pub invariant_of-seat-2 : goal.invariant_of-seat-2
 invariant_of-seat-2 c =
     let number : c.new-receipt.result.number ≡ c.in_ok-number.number = ap (λ r. r.number) c.new-receipt.ensures in
-    let below : held c.seat.inside.receipts.items ≤ c.in_ok-number.number = omega (arith, c.in_ok-number.ensures.ok.2, ap (λ s. held s.receipts) c.seat.view_is) in
-    let fits : held c.seat.inside.receipts.items ≤ c.new-receipt.result.number = omega arith in (
-      sym (held_next c.seat.inside.receipts.items c.reserve-2.new.self.items c.push_reserved-2.new.self.items c.new-receipt.result c.push_reserved-2.ensures.items c.in_ok-reserve-2.ensures.items fits
+    let below : max c.seat.inside.settled.until (held c.seat.inside.receipts.items) ≤ c.in_ok-number.number = omega (arith, c.in_ok-number.ensures.ok.2, ap (λ s. s.settled.until) c.seat.view_is, ap (λ s. held s.receipts) c.seat.view_is) in
+    let fits : max c.seat.inside.settled.until (held c.seat.inside.receipts.items) ≤ c.new-receipt.result.number = omega arith in
+    let above : held c.seat.inside.receipts.items ≤ c.new-receipt.result.number = omega (arith, fits) in (
+      sym (held_next c.seat.inside.receipts.items c.reserve-2.new.self.items c.push_reserved-2.new.self.items c.new-receipt.result c.seat.inside.settled.until c.push_reserved-2.ensures.items c.in_ok-reserve-2.ensures.items fits
           ∙ ap (λ n. n + 1) number),
-      rising_next c.seat.inside.receipts.items c.reserve-2.new.self.items c.push_reserved-2.new.self.items c.new-receipt.result c.push_reserved-2.ensures.items c.in_ok-reserve-2.ensures.items fits c.seat.invariant.1,
+      rising_next c.seat.inside.receipts.items c.reserve-2.new.self.items c.push_reserved-2.new.self.items c.new-receipt.result c.push_reserved-2.ensures.items c.in_ok-reserve-2.ensures.items above c.seat.invariant.1,
     )
 
 pub returns-clause-ok : goal.returns-clause-ok
@@ -51,5 +59,7 @@ returns-clause-ok c =
     let history = longer _ _ c.args.self.now.history _ _ c.push_reserved.ensures.items (c.in_ok-reserve.ensures.items ∙ ap (λ d. d.history) c.self.view_is) logged in
     let receipts = longer _ _ c.args.seat.now.receipts _ _ c.push_reserved-2.ensures.items (c.in_ok-reserve-2.ensures.items ∙ ap (λ s. s.receipts) c.seat.view_is) (receipt_is c.new-receipt.result n _ _ c.new-receipt.ensures kept) in
     accepting c.args.self.now _ c.args.seat.now _ c.args.command r n c.new-answer.result legal answered c.in_ok-number.ensures.ok
-    (ap (λ d. d.opening) c.self.view_is) (ap (λ d. d.first) c.self.view_is) history (ap (λ d. d.limit) c.self.view_is) (ap (λ d. d.seats) c.self.view_is) (ap (λ d. d.has_ended) c.self.view_is)
-    seat receipts (ap (λ s. s.learnt) c.seat.view_is) (receipt_is c.new-answer.result n _ _ c.new-answer.ensures told)
+    (ap (λ d. d.opening) c.self.view_is) (ap (λ d. d.first) c.self.view_is) history (ap (λ d. d.limit) c.self.view_is) (ap (λ d. d.seats) c.self.view_is)
+    (noted_is (ledger_in c.note.new.self) (ledger_in c.reserve-3.new.self) (ledger_in c.self.inside.ledger) c.args.self.now.ledger c.seat.inside.number c.args.seat.now.number n (next_number c.args.self.now) c.note.ensures c.in_ok-reserve-3.ensures.same (ap (λ d. d.ledger) c.self.view_is) seat c.in_ok-number.ensures.ok.0)
+    (ap (λ d. d.has_ended) c.self.view_is)
+    seat receipts (ap (λ s. s.settled) c.seat.view_is) (ap (λ s. s.learnt) c.seat.view_is) (receipt_is c.new-answer.result n _ _ c.new-answer.ensures told)

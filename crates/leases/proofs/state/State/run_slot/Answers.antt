@@ -1,5 +1,5 @@
 -- Turns of the slot have run while the slots waited; then they are told.
-use Rattle.std.proofs.Common.{sym, subst}
+use Rattle.std.proofs.Common.{◌≤◌, sym, subst}
 use Rattle.leases.specs.Applied.{HasWiredOperators}
 use Rattle.leases.specs.Drains.{OneOrMoreHaveRun}
 use Rattle.leases.specs.Shown.{engine_in}
@@ -21,3 +21,6 @@ run_while_first-requires-clause-over c = over_numbers (engine_in c.args.self.now
 -- THEY ARE TOLD
 pub returns-clause-ok : goal.returns-clause-ok
 returns-clause-ok c = subst (λ (z : State). OneOrMoreHaveRun c.args.rows (engine_in c.args.self.now) (engine_in z)) (sym c.update_slots.ensures) c.in_ok-next.ensures.ok
+
+pub returns-clause-most : goal.returns-clause-most
+returns-clause-most c = subst (λ (z : State). z.next ≤ c.args.until) (sym c.update_slots.ensures) c.in_ok-next.ensures.most

@@ -1,0 +1,9 @@
+use Rattle.hub.specs.Ledgers.{ledger_in}
+use Rattle.hub.proofs.LedgerLemmas.{emptied}
+use Rattle.hub.proofs.ledger.Ledger.settle.Goals as goal
+
+pub returns : goal.returns
+unfolding ledger_in
+returns c =
+    let l = c.args.self.now in
+    emptied l.accounts.items c.args.seat c.args.settled c.new.result l.strangers l.settled l.by_number c.args.count c.args.by_number c.new.ensures.items

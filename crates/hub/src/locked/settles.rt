@@ -1,0 +1,34 @@
+//! Settles a seat: its receipts are compared with the history, and let go.
+ghost use Rattle.hub.specs.Steps.{Settles};
+
+use crate::audit::agrees;
+use crate::locked::Locked;
+use crate::seat::Seat;
+use crate::settled::Settled;
+
+impl Locked {
+    /// Compares the receipts that the seat holds with the history, by value, and lets them go.
+    /// Returns `false` if they differ; then nothing has changed. Takes no memory, and looks only at
+    /// the seat's own entries.
+    ///
+    /// Receipts of entries that an opening replaces are compared by their numbers.
+    #[tactic(auto, unfolding(crate::specs::Steps::engine_at))]
+    pub fn settle(&mut self, seat: &mut Seat) -> bool
+        ensures { Settles self.old seat.old result self.new seat.new }
+    {
+        if !agrees(&self.ledger, self.history.as_slice(), self.first, seat) {
+            return false;
+        }
+        let count = seat.receipts.len() as u64;
+        let by_number = seat.count_below(self.first);
+        let settled = Settled {
+            count: seat.settled.count + count,
+            until: seat.own_reach,
+        };
+        self.ledger
+            .settle(self.alloc, seat.number, settled, count, by_number);
+        seat.receipts = Vec::new(self.alloc);
+        seat.settled = settled;
+        true
+    }
+}

@@ -1,0 +1,322 @@
+//! Shows each call of a hub, which shares one engine among threads, and of its seats.
+//!
+//! Most examples call from one thread. From several threads the calls are the same: each client has
+//! a seat of its own, and all share the hub.
+
+use crate::fixture::{NOW, columns, rows};
+use crate::stop::Stop;
+use hub::{Hub, LeaseRest, LeaseWait, Receipt, Seat};
+use leases::Leased;
+use reference::Fault;
+use std::alloc::{AllocError, Global};
+use std::sync::Wait;
+use std::thread;
+use std::thread::Threads;
+
+/// Shows what clients of a hub call.
+pub(crate) fn show_calls<R: Print + Wait>(rt: &R, alloc: Global) -> Result<(), Stop> {
+    a_hub_answers_two_seats(rt, alloc)?;
+    an_opening_sets_limits(rt, alloc)?;
+    a_query_of_a_hub_is_dropped(rt, alloc)?;
+    anyone_looks_without_a_seat(rt, alloc)
+}
+
+/// Shows what workers of a hub call.
+pub(crate) fn show_turns<R: Print + Threads + Wait + Sync>(
+    rt: &R,
+    alloc: Global,
+) -> Result<(), Stop> {
+    a_worker_runs_a_turn(rt, alloc)?;
+    a_worker_gives_a_turn_up(rt, alloc)?;
+    a_worker_runs_turns_to_rest(rt, alloc)?;
+    two_threads_run_turns_to_rest(rt, alloc)?;
+    a_worker_waits_until_the_end(rt, alloc)
+}
+
+/// Shows receipts, the history, and how it is forgotten and returned.
+pub(crate) fn show_history<R: Print + Wait>(rt: &R, alloc: Global) -> Result<(), Stop> {
+    a_seat_keeps_receipts(rt, alloc)?;
+    a_seat_learns_of_another(rt, alloc)?;
+    a_close_wants_every_seat(rt, alloc)?;
+    a_closed_hub_shows_its_history(rt, alloc)?;
+    a_forget_restarts_the_history(rt, alloc)
+}
+
+/// Copies a text.
+fn text(alloc: Global, text: &str) -> Result<String, AllocError> {
+    String::from_str(alloc, text)
+}
+
+/// Opens a hub of two seats. Its history has room for 100 entries.
+fn opened(alloc: Global) -> Result<(Hub, Seat, Seat), Fault> {
+    let (hub, mut seats) = Hub::open(alloc, 2, 100)?;
+    let one = seats.pop().ok_or(Fault::BadLimit)?;
+    let zero = seats.pop().ok_or(Fault::BadLimit)?;
+    Ok((hub, zero, one))
+}
+
+/// Declares S(a) and registers `q` by this seat: the entries 0 and 1.
+fn declare<R: Wait>(rt: &R, alloc: Global, hub: &Hub, seat: &mut Seat) -> Result<(), Fault> {
+    hub.stream(rt, seat, text(alloc, "S")?, columns(alloc)?, 0)?;
+    hub.query(rt, seat, text(alloc, "q")?, text(alloc, NOW)?, None)?;
+    Ok(())
+}
+
+/// Appends the rows 2 and 5, and closes the instants 0 and 1. Returns the heartbeat's receipt.
+fn fill<R: Wait>(rt: &R, alloc: Global, hub: &Hub, seat: &mut Seat) -> Result<Receipt, Fault> {
+    hub.append(rt, seat, 0, rows(alloc, &[(0, 2), (1, 5)])?)?;
+    hub.heartbeat(rt, seat, 0, 1)
+}
+
+/// Opens a hub of two seats. Seat 0 declares and fills it: the entries 0 to 3.
+fn filled<R: Wait>(rt: &R, alloc: Global) -> Result<(Hub, Seat, Seat), Fault> {
+    let (hub, mut zero, one) = opened(alloc)?;
+    declare(rt, alloc, &hub, &mut zero)?;
+    fill(rt, alloc, &hub, &mut zero)?;
+    Ok((hub, zero, one))
+}
+
+/// Lists two seats, as a close takes them.
+fn both(alloc: Global, zero: Seat, one: Seat) -> Result<Vec<Seat>, AllocError> {
+    let mut seats = Vec::new(alloc);
+    seats.reserve(2)?;
+    seats.push_reserved(zero);
+    seats.push_reserved(one);
+    Ok(seats)
+}
+
+/// Shows the calls from a declaration to an answer, by two seats.
+///
+/// Seat 0 declares, appends and closes instants. Seat 1 registers a query and takes its answers.
+/// The take is the fifth entry of the history, so its number is 4.
+fn a_hub_answers_two_seats<R: Print + Wait>(rt: &R, alloc: Global) -> Result<(), Stop> {
+    let (hub, mut zero, mut one) = opened(alloc)?;
+    let (stream, _) = hub.stream(rt, &mut zero, text(alloc, "S")?, columns(alloc)?, 0)?;
+    let (query, _) = hub.query(rt, &mut one, text(alloc, "q")?, text(alloc, NOW)?, None)?;
+    hub.append(rt, &mut zero, stream, rows(alloc, &[(0, 2), (1, 5)])?)?;
+    hub.heartbeat(rt, &mut zero, stream, 1)?;
+    hub.drain(rt, 256)?;
+    let (answers, receipt) = hub.take(rt, &mut one, query, 100)?;
+    let entry = receipt.number();
+    println!(rt; "a_hub_answers_two_seats: {answers:?}, entry {entry}")?;
+    Ok(())
+}
+
+/// Shows the limits of an opening.
+///
+/// A hub has 1 to 64 seats, so none with 65 opens. This one has one seat, and its history has room
+/// for one entry. So the first declaration is accepted, and the second finds the history full.
+fn an_opening_sets_limits<R: Print + Wait>(rt: &R, alloc: Global) -> Result<(), Stop> {
+    let refused = Hub::open(alloc, 65, 1).err();
+    let (hub, mut seats) = Hub::open(alloc, 1, 1)?;
+    let mut seat = seats.pop().ok_or(Fault::BadLimit)?;
+    hub.stream(rt, &mut seat, text(alloc, "S")?, columns(alloc)?, 0)?;
+    let second = hub.stream(rt, &mut seat, text(alloc, "T")?, columns(alloc)?, 0);
+    println!(rt; "an_opening_sets_limits: {refused:?} {:?}", second.err())?;
+    Ok(())
+}
+
+/// Shows that a dropped query has no name and no answers.
+fn a_query_of_a_hub_is_dropped<R: Print + Wait>(rt: &R, alloc: Global) -> Result<(), Stop> {
+    let (hub, mut zero, _) = filled(rt, alloc)?;
+    hub.drop_query(rt, &mut zero, 0)?;
+    let q = hub.query_named(rt, "q");
+    let waiting = hub.waiting(rt, 0);
+    println!(rt; "a_query_of_a_hub_is_dropped: q {q:?}, waiting {waiting:?}")?;
+    Ok(())
+}
+
+/// Shows what needs no seat and makes no entry.
+///
+/// The stream S and the query `q` have the number 0. At the Window wait two rows and two ticks, and
+/// no answer waits. The slopes are those of the default costs.
+fn anyone_looks_without_a_seat<R: Print + Wait>(rt: &R, alloc: Global) -> Result<(), Stop> {
+    let (hub, _, _) = filled(rt, alloc)?;
+    let (s, q) = (hub.stream_named(rt, "S"), hub.query_named(rt, "q"));
+    let (pending, waiting) = (hub.pending(rt, 0)?, hub.waiting(rt, 0)?);
+    println!(rt; "anyone_looks_without_a_seat: S {s:?}, q {q:?}, {pending:?}, {waiting} wait")?;
+    for (kind, slope) in hub.slopes(rt, 0)? {
+        println!(rt; "anyone_looks_without_a_seat: {kind} {slope}")?;
+    }
+    Ok(())
+}
+
+/// Shows one turn of a worker: the lease, the run and the finish.
+///
+/// Only the lease and the finish take the lock. The turn takes the row 2 at the Window. At its
+/// finish the row goes on to the Project.
+fn a_worker_runs_a_turn<R: Print + Wait>(rt: &R, alloc: Global) -> Result<(), Stop> {
+    let (hub, _, _) = filled(rt, alloc)?;
+    if let Leased::Turn(turn) = hub.lease(rt, 256)? {
+        match turn.run(alloc) {
+            Ok(done) => hub.finish(rt, done)?,
+            Err(turn) => hub.abandon(rt, turn.lease)?,
+        }
+    }
+    let pending = hub.pending(rt, 0)?;
+    println!(rt; "a_worker_runs_a_turn: {pending:?}")?;
+    Ok(())
+}
+
+/// Shows that a turn which is given up is not out.
+///
+/// The turn 0 is given up. A second time it is unknown.
+fn a_worker_gives_a_turn_up<R: Print + Wait>(rt: &R, alloc: Global) -> Result<(), Stop> {
+    let (hub, _, _) = filled(rt, alloc)?;
+    if let Leased::Turn(turn) = hub.lease(rt, 256)? {
+        let lease = turn.lease;
+        hub.abandon(rt, lease)?;
+        let again = hub.abandon(rt, lease);
+        println!(rt; "a_worker_gives_a_turn_up: turn {lease}, then {again:?}")?;
+    }
+    Ok(())
+}
+
+/// Runs turns until no operator may take anything and no turn is out.
+fn run_to_rest<R: Wait>(rt: &R, alloc: Global, hub: &Hub) -> Result<(), Fault> {
+    for _ in 0..u64::MAX {
+        let LeaseRest::Turn(turn) = hub.lease_or_rest(rt, 256)? else {
+            return Ok(());
+        };
+        match turn.run(alloc) {
+            Ok(done) => hub.finish(rt, done)?,
+            Err(turn) => {
+                hub.abandon(rt, turn.lease)?;
+                return Err(Fault::OutOfMemory);
+            }
+        }
+    }
+    Err(Fault::TooManyLeases)
+}
+
+/// Shows that turns answer as a drain does.
+///
+/// A worker that finds no turn waits for those that are out. At rest all answers wait.
+fn a_worker_runs_turns_to_rest<R: Print + Wait>(rt: &R, alloc: Global) -> Result<(), Stop> {
+    let (hub, mut zero, _) = filled(rt, alloc)?;
+    run_to_rest(rt, alloc, &hub)?;
+    let (answers, _) = hub.take(rt, &mut zero, 0, 100)?;
+    println!(rt; "a_worker_runs_turns_to_rest: {answers:?}")?;
+    Ok(())
+}
+
+/// Runs turns in two threads, each until it finds the hub at rest.
+fn run_by_two<R: Threads + Wait + Sync>(rt: &R, alloc: Global, hub: &Hub) -> Result<(), Fault> {
+    let (first, second) = thread::join(
+        rt,
+        move || run_to_rest(rt, alloc, hub),
+        move || run_to_rest(rt, alloc, hub),
+    );
+    first.and(second)
+}
+
+/// Shows two workers that share a hub, each in a thread of its own.
+///
+/// Which turns a worker gets may differ from run to run. The answers do not.
+fn two_threads_run_turns_to_rest<R: Print + Threads + Wait + Sync>(
+    rt: &R,
+    alloc: Global,
+) -> Result<(), Stop> {
+    let (hub, mut zero, _) = filled(rt, alloc)?;
+    run_by_two(rt, alloc, &hub)?;
+    let (answers, _) = hub.take(rt, &mut zero, 0, 100)?;
+    println!(rt; "two_threads_run_turns_to_rest: {answers:?}")?;
+    Ok(())
+}
+
+/// Shows a worker that waits for turns.
+///
+/// It gets a turn, which it gives up here. After the end there is no turn for it, although one is
+/// ready.
+fn a_worker_waits_until_the_end<R: Print + Wait>(rt: &R, alloc: Global) -> Result<(), Stop> {
+    let (hub, _, _) = filled(rt, alloc)?;
+    for _ in 0..2 {
+        match hub.lease_wait(rt, 256)? {
+            LeaseWait::Turn(turn) => {
+                hub.abandon(rt, turn.lease)?;
+                println!(rt; "a_worker_waits_until_the_end: turn {}", turn.lease)?;
+            }
+            LeaseWait::Ended => println!(rt; "a_worker_waits_until_the_end: ended")?,
+        }
+        hub.end(rt);
+    }
+    Ok(())
+}
+
+/// Shows the receipts of seat 0, and its reach.
+///
+/// Its four calls have the entries 0 to 3. So its reach is 4. Seat 1 has not called yet.
+fn a_seat_keeps_receipts<R: Print + Wait>(rt: &R, alloc: Global) -> Result<(), Stop> {
+    let (_, zero, one) = filled(rt, alloc)?;
+    for seat in [&zero, &one] {
+        let (number, reach) = (seat.number(), seat.reach());
+        let receipts = seat.receipts().len();
+        println!(rt; "a_seat_keeps_receipts: seat {number}, {receipts} receipts, reach {reach}")?;
+    }
+    Ok(())
+}
+
+/// Shows that a call comes after all that its seat has learnt.
+///
+/// Seat 1 learns of the heartbeat, which is entry 3. So its reach is 4, and its take is above 3.
+fn a_seat_learns_of_another<R: Print + Wait>(rt: &R, alloc: Global) -> Result<(), Stop> {
+    let (hub, mut zero, mut one) = opened(alloc)?;
+    declare(rt, alloc, &hub, &mut zero)?;
+    let heartbeat = fill(rt, alloc, &hub, &mut zero)?;
+    one.learn(&heartbeat);
+    let reach = one.reach();
+    let (_, take) = hub.take(rt, &mut one, 0, 100)?;
+    let entry = take.number();
+    println!(rt; "a_seat_learns_of_another: reach {reach}, entry {entry}")?;
+    Ok(())
+}
+
+/// Shows a close with one of two seats, and one with both.
+///
+/// The first close returns the hub and the seat. The second one returns the four entries.
+fn a_close_wants_every_seat<R: Print + Wait>(rt: &R, alloc: Global) -> Result<(), Stop> {
+    let (hub, zero, one) = filled(rt, alloc)?;
+    let mut some = Vec::new(alloc);
+    some.reserve(1)?;
+    some.push_reserved(zero);
+    if let Err((hub, mut seats)) = hub.close(some) {
+        seats.reserve(1)?;
+        seats.push_reserved(one);
+        let entries = hub.close(seats).ok().map(|closed| closed.entries.len());
+        println!(rt; "a_close_wants_every_seat: {entries:?} entries")?;
+    }
+    Ok(())
+}
+
+/// Shows the history of a hub: who made each entry.
+///
+/// Seat 0 made the first four entries, and seat 1 the last one.
+fn a_closed_hub_shows_its_history<R: Print + Wait>(rt: &R, alloc: Global) -> Result<(), Stop> {
+    let (hub, zero, mut one) = filled(rt, alloc)?;
+    hub.take(rt, &mut one, 0, 100)?;
+    if let Ok(closed) = hub.close(both(alloc, zero, one)?) {
+        for entry in &closed.entries {
+            println!(rt; "a_closed_hub_shows_its_history: seat {}", entry.seat())?;
+        }
+    }
+    Ok(())
+}
+
+/// Shows that a forget replaces the entries by an opening.
+///
+/// The four entries are gone, but numbers go on: the take is entry 4. The opening replaces four
+/// entries. It has one query, which goes on from the instant 2.
+fn a_forget_restarts_the_history<R: Print + Wait>(rt: &R, alloc: Global) -> Result<(), Stop> {
+    let (hub, mut zero, one) = filled(rt, alloc)?;
+    hub.drain(rt, 256)?;
+    hub.forget(rt)?;
+    let (_, take) = hub.take(rt, &mut zero, 0, 100)?;
+    if let Ok(closed) = hub.close(both(alloc, zero, one)?) {
+        let (first, entries) = (closed.first, closed.entries.len());
+        let (queries, next) = (closed.opening.queries(), closed.opening.next(0));
+        println!(rt; "a_forget_restarts_the_history: entry {}", take.number())?;
+        println!(rt; "a_forget_restarts_the_history: {first} replaced, {entries} left")?;
+        println!(rt; "a_forget_restarts_the_history: {queries} query, next {next:?}")?;
+    }
+    Ok(())
+}

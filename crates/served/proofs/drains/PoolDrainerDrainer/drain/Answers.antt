@@ -6,7 +6,7 @@ use Rattle.served.proofs.drains.PoolDrainerDrainer.drain.Goals as goal
 pub drain-requires-sync-R : goal.drain-requires-sync-R
 drain-requires-sync-R g c κs within = record { shared = is_shared g.row.R.shr_at c.requires }
 
-pub returns : goal.returns
-returns g c =
+pub returns-in-None : goal.returns-in-None
+returns-in-None g c =
     pool_drained c.args.self.now.workers c.args.self.now.rows c.drain.result (answer_of c.done.result) c.args.self.now.turn
     c.drain.ensures.ok c.drain.ensures.bad c.drain.ensures.full c.drain.ensures.err c.done.ensures

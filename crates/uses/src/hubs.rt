@@ -1,6 +1,6 @@
 //! Shows each call of a hub, which shares one engine among threads, and of its seats.
 //!
-//! Most examples call from one thread. From several threads the calls are the same: each client has
+//! The examples call from one thread. From several threads the calls are the same: each client has
 //! a seat of its own, and all share the hub.
 
 use crate::fixture::{NOW, columns, rows};
@@ -10,8 +10,6 @@ use leases::Leased;
 use reference::Fault;
 use std::alloc::{AllocError, Global};
 use std::sync::Wait;
-use std::thread;
-use std::thread::Threads;
 
 /// Shows what clients of a hub call.
 pub(crate) fn show_calls<R: Print + Wait>(rt: &R, alloc: Global) -> Result<(), Stop> {
@@ -22,14 +20,10 @@ pub(crate) fn show_calls<R: Print + Wait>(rt: &R, alloc: Global) -> Result<(), S
 }
 
 /// Shows what workers of a hub call.
-pub(crate) fn show_turns<R: Print + Threads + Wait + Sync>(
-    rt: &R,
-    alloc: Global,
-) -> Result<(), Stop> {
+pub(crate) fn show_turns<R: Print + Wait>(rt: &R, alloc: Global) -> Result<(), Stop> {
     a_worker_runs_a_turn(rt, alloc)?;
     a_worker_gives_a_turn_up(rt, alloc)?;
     a_worker_runs_turns_to_rest(rt, alloc)?;
-    two_threads_run_turns_to_rest(rt, alloc)?;
     a_worker_waits_until_the_end(rt, alloc)
 }
 
@@ -197,30 +191,6 @@ fn a_worker_runs_turns_to_rest<R: Print + Wait>(rt: &R, alloc: Global) -> Result
     run_to_rest(rt, alloc, &hub)?;
     let (answers, _) = hub.take(rt, &mut zero, 0, 100)?;
     println!(rt; "a_worker_runs_turns_to_rest: {answers:?}")?;
-    Ok(())
-}
-
-/// Runs turns in two threads, each until it finds the hub at rest.
-fn run_by_two<R: Threads + Wait + Sync>(rt: &R, alloc: Global, hub: &Hub) -> Result<(), Fault> {
-    let (first, second) = thread::join(
-        rt,
-        move || run_to_rest(rt, alloc, hub),
-        move || run_to_rest(rt, alloc, hub),
-    );
-    first.and(second)
-}
-
-/// Shows two workers that share a hub, each in a thread of its own.
-///
-/// Which turns a worker gets may differ from run to run. The answers do not.
-fn two_threads_run_turns_to_rest<R: Print + Threads + Wait + Sync>(
-    rt: &R,
-    alloc: Global,
-) -> Result<(), Stop> {
-    let (hub, mut zero, _) = filled(rt, alloc)?;
-    run_by_two(rt, alloc, &hub)?;
-    let (answers, _) = hub.take(rt, &mut zero, 0, 100)?;
-    println!(rt; "two_threads_run_turns_to_rest: {answers:?}")?;
     Ok(())
 }
 

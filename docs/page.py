@@ -1,8 +1,7 @@
 #!/usr/bin/env python3
 """Draws page.png and page-dark.png: the live page over five minutes of trades, by Chromium.
 
-Run it as `/usr/bin/python3 docs/page.py`. The trades are random numbers from a fixed seed. Where
-the built server answers no `status` yet, the tests' stand-in answers it over a real `cqlrun`.
+Run it as `/usr/bin/python3 docs/page.py`. The trades are random numbers from a fixed seed.
 """
 from __future__ import annotations
 
@@ -18,9 +17,8 @@ PACKAGE = HERE.parent / "clients" / "python"
 sys.path[:0] = [str(PACKAGE), str(PACKAGE / "tests")]
 
 from browser import Browser  # noqa: E402
-from standin import Standin  # noqa: E402
 
-from cqld import Client, FileDictionary, Refused, Server, find_program  # noqa: E402
+from cqld import Client, FileDictionary, Server  # noqa: E402
 
 SECONDS = 300
 SYMBOLS = ["ACME", "BOLT", "CORA"]
@@ -57,21 +55,9 @@ def feed(client: Client, words: FileDictionary, start: int) -> None:
     client.drain()
 
 
-def server() -> Server | Standin:
-    """Returns a server that answers `status`."""
-    real = Server()
-    try:
-        with Client(real.port) as client:
-            client.status()
-    except Refused:
-        real.close()
-        return Standin(find_program("cqlrun"))
-    return real
-
-
 def main() -> None:
     """Draws both pictures."""
-    with tempfile.TemporaryDirectory() as folder, server() as running:
+    with tempfile.TemporaryDirectory() as folder, Server() as running:
         start = int(time.time()) - SECONDS
         session, numbers = Path(folder, "session.cql"), Path(folder, "words")
         session.write_text(SESSION.format(start=start))

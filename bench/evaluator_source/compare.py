@@ -6,11 +6,16 @@ import sys
 from collections import Counter
 from random import Random
 
-from evaluate import answers, relation
+from evaluate import answers, changes, relation
 from queries import Query
 
-WAYS = (["--plain"], ["--turn", "1"], ["--turn", "7"], ["--turn", "256"], ["--turn", "1024"])
+WAYS = (["--plain"], ["--turn", "1"], ["--turn", "7"], ["--turn", "256"], ["--turn", "1024"],
+        ["--workers", "2"])
+# A gap above which the evaluator has to skip instants, and --plain takes too long.
+MANY = 1_000
 DONE = {"ok": True}
+BAD_REQUEST, BAD_LIMIT = {"error": "N2 BadRequest"}, {"error": "E14 BadLimit"}
+UNKNOWN_QUERY = {"error": "E6 UnknownQuery"}
 
 
 class Stream:
@@ -19,10 +24,13 @@ class Stream:
 
 
 class Running:
-    """A registered query: what it may see, how far it was drained, and what waits."""
+    """A registered query: what it may see, how far it was drained, what waits and was taken.
 
-    def __init__(self, query, streams):
+    Where it skips, its relation is not found anew until a row may enter or leave a window."""
+
+    def __init__(self, query, streams, skips=False):
         self.query, self.is_dropped, self.waiting, self.before = query, False, [], Counter()
+        self.taken, self.skips = 0, skips
         self.streams = [streams[it] for it in query.streams]
         self.base = self.drained = max(it.closed for it in self.streams)
         self.places = [len(it.elements) for it in self.streams]
@@ -33,19 +41,36 @@ class Running:
             [it for it in stream.elements if it[0] > self.base and it[1] >= place]
             for stream, place in zip(self.streams, self.places)
         ]
+        windows = zip(self.query.windows, inputs)
+        steps = sorted(set().union(*(changes(*it) for it in windows))) if self.skips else []
         while self.drained < upto and not self.is_dropped:
             self.drained += 1
-            now = relation(self.query, inputs, self.drained)
-            self.waiting += [[self.drained, *row]
-                             for row in answers(self.query.operator, self.before, now)]
-            self.before = now
+            self.answer(relation(self.query, inputs, self.drained))
+            if self.skips:
+                self.stay(min(next((it for it in steps if it > self.drained), upto + 1), upto + 1))
+
+    def answer(self, now):
+        """Adds the answers of an instant with this relation."""
+        self.waiting += [[self.drained, *row]
+                         for row in answers(self.query.operator, self.before, now)]
+        self.before = now
+
+    def stay(self, until):
+        """Goes on to before an instant, while the relation stays."""
+        if answers(self.query.operator, self.before, self.before):
+            while self.drained < until - 1:
+                self.drained += 1
+                self.answer(self.before)
+        self.drained = until - 1
 
 
 class Script:
-    """Requests, and what their replies must be."""
+    """Requests, and what their replies must be; without looks none is a status or a peek. Rows and
+    heartbeats come up to `gap` instants later, now and then."""
 
-    def __init__(self, seed):
+    def __init__(self, seed, has_looks=True, gap=0, skips=False):
         self.random, self.requests, self.replies = Random(seed), [], []
+        self.gap, self.skips = gap, skips
         self.streams, self.queries = {}, []
         self.greatest = self.random.choice([1, 2, 4, 4, 2**40 - 1])
         for name in "ABC"[: self.random.randint(1, 3)]:
@@ -57,25 +82,44 @@ class Script:
             self.register()
         calls = [self.append, self.heartbeat, self.drain, self.take, self.register, self.drop,
                  self.forget]
-        weights = [45, 27, 13, 10, 3, 2, 10]
-        for call in self.random.choices(calls, weights, k=self.random.randint(5, 40)):
+        weights, most = [45, 27, 13, 10, 3, 2, 10], 40
+        if has_looks:
+            calls += [self.status, self.peek, self.bad_look]
+            weights, most = [*weights, 8, 8, 3], 50
+        for call in self.random.choices(calls, weights, k=self.random.randint(5, most)):
             call()
+            # what the call before may have changed
+            if has_looks and self.random.random() < 0.1:
+                self.status()
         self.drain()
         for number in range(len(self.queries)):
+            if has_looks:
+                self.peek(number, 4096)
             self.take(number, 4096)
+        if has_looks:
+            self.status()
 
     def ask(self, reply, **request):
         self.requests.append(request)
         self.replies.append(reply)
 
     def register(self):
-        query = Query(self.random, {name: it.columns for name, it in self.streams.items()})
+        columns = {name: it.columns for name, it in self.streams.items()}
+        query = Query(self.random, columns)
+        while self.gap > MANY and query.operator == "Rstream":
+            query = Query(self.random, columns)
         self.ask(DONE, op="query", name=f"q{len(self.queries)}", text=query.text(self.random))
-        self.queries.append(Running(query, self.streams))
+        self.queries.append(Running(query, self.streams, self.skips))
+
+    def later(self, chance):
+        """How many instants more than without gaps something comes later."""
+        if not self.gap or self.random.random() > chance:
+            return 0
+        return self.random.randint(1, self.gap)
 
     def row(self, stream):
         late = self.random.random() < 0.003
-        later = self.random.choice([0, 0, 0, 1, 1, 2, 3, 5, 8, 12])
+        later = self.random.choice([0, 0, 0, 1, 1, 2, 3, 5, 8, 12]) + self.later(0.02)
         value = lambda: (None if self.random.random() < 0.15
                          else self.random.randint(-self.greatest, self.greatest))
         at = max(stream.closed if late else stream.closed + 1 + later, 0)
@@ -96,6 +140,7 @@ class Script:
         name = self.random.choice([*self.streams])
         stream = self.streams[name]
         at = max(stream.closed + self.random.choice([1, 1, 1, 1, 2, 2, 3, 3, 7, 7, 0, -1]), 0)
+        at += self.later(0.2)
         is_backward = at <= stream.closed
         reply = {"error": "E11 Backward"} if is_backward else DONE
         self.ask(reply, op="heartbeat", stream=name, at=at)
@@ -113,15 +158,58 @@ class Script:
     def of_some(self, number, reply, **request):
         """Asks for a query, which may have been dropped."""
         is_dropped = self.queries[number].is_dropped
-        reply = {"error": "E6 UnknownQuery"} if is_dropped else reply
-        self.ask(reply, **request, query=f"q{number}")
+        self.ask(UNKNOWN_QUERY if is_dropped else reply, **request, query=f"q{number}")
 
     def take(self, number=None, limit=None):
         number = self.random.randrange(len(self.queries)) if number is None else number
         limit = limit or self.random.choice([1, 3, 1000])
         query = self.queries[number]
-        self.of_some(number, {"ok": True, "rows": query.waiting[:limit]}, op="take", limit=limit)
+        rows = query.waiting[:limit]
+        self.of_some(number, {"ok": True, "rows": rows}, op="take", limit=limit)
         query.waiting = query.waiting[limit:]
+        query.taken += len(rows)
+
+    def peek(self, number=None, limit=None):
+        """What a take would hand out, which waits on."""
+        number = self.random.randrange(len(self.queries)) if number is None else number
+        limit = limit or self.random.choice([1, 3, 1000])
+        rows = self.queries[number].waiting[:limit]
+        self.of_some(number, {"ok": True, "rows": rows}, op="peek", limit=limit)
+
+    def status(self):
+        """How far each stream and each query is; a query that was dropped is left out."""
+        queries = [
+            {"base": it.base, "name": f"q{number}", "taken": it.taken, "upto": it.drained,
+             "waiting": len(it.waiting)}
+            for number, it in enumerate(self.queries) if not it.is_dropped
+        ]
+        streams = [
+            {"closed": it.closed, "columns": it.columns, "name": name, "rows": len(it.elements)}
+            for name, it in self.streams.items()
+        ]
+        # a status has no keys, and those of others are ignored
+        others = self.random.choice([{}, {}, {}, {"query": "q0"}, {"limit": "none"}])
+        self.ask({"ok": True, "queries": queries, "streams": streams}, op="status", **others)
+
+    def bad_look(self):
+        """A look that is refused: no request, a bad limit, or a query that never was."""
+        good = {"op": "peek", "query": f"q{self.random.randrange(len(self.queries))}", "limit": 3}
+        without = lambda key: {name: value for name, value in good.items() if name != key}
+        bad = self.random.choice([
+            without("query"), without("limit"), {**good, "query": 0}, {**good, "query": None},
+            {**good, "limit": "3"}, {**good, "limit": 1.5}, {**good, "limit": None},
+            {**good, "limit": [3]}, {"op": "Status"}, {"op": ["status"]}, {"op": "peeks"},
+        ])
+        choice = self.random.randrange(3)
+        if choice == 0:
+            self.ask(BAD_REQUEST, **bad)
+        elif choice == 1:
+            # an unknown query comes before a bad limit
+            self.ask(UNKNOWN_QUERY, op="peek", query="Q", limit=self.random.choice([-1, 0, 1]))
+        else:
+            number = self.random.randrange(len(self.queries))
+            limit = self.random.choice([-(2**63), -1, 0, 4_097, 2**63 - 1])
+            self.of_some(number, BAD_LIMIT, op="peek", limit=limit)
 
     def drop(self):
         number = self.random.randrange(len(self.queries))
@@ -129,34 +217,41 @@ class Script:
         self.queries[number].is_dropped = True
 
 
-def is_foretold(program, seed, script):
-    """Runs the script in each way; prints the first reply that was not foretold."""
-    lines = [json.dumps(it, separators=(",", ":")) for it in script.requests]
-    for way in WAYS:
+def is_foretold(program, seed, script, ways):
+    """Runs the script in each way; prints the first reply that was not foretold, byte by byte."""
+    text = lambda it, is_sorted: json.dumps(it, separators=(",", ":"), sort_keys=is_sorted)
+    lines = [text(it, False) for it in script.requests]
+    foretold = [text(it, True) for it in script.replies]
+    for way in ways:
         ran = subprocess.run([program, *way], input="\n".join(lines) + "\n",
                              stdout=subprocess.PIPE, text=True)
-        replies = [json.loads(it) for it in ran.stdout.splitlines()]
-        if replies != script.replies:
-            at = next((i for i, (a, b) in enumerate(zip(replies, script.replies)) if a != b),
-                      len(replies))
-            print(f"script {seed}, {' '.join(way)}, request {at + 1}: got {replies[at : at + 1]}, "
-                  f"foretold {script.replies[at : at + 1]}")
+        replies = ran.stdout.splitlines()
+        if replies != foretold:
+            at = next((i for i, (a, b) in enumerate(zip(replies, foretold)) if a != b),
+                      min(len(replies), len(foretold)))
+            print(f"script {seed}, {' '.join(way)}, request {at + 1}: "
+                  f"got {' '.join(replies[at : at + 1])}, "
+                  f"foretold {' '.join(foretold[at : at + 1])}")
             print("\n".join(lines[: at + 1]), flush=True)
             return False
     return True
 
 
-def main(program, count, first):
+def main(program, count, first, gap):
     good = rows = faults = 0
+    ways = WAYS[1:] if gap > MANY else WAYS
     for seed in range(first, first + count):
-        script = Script(seed)
-        good += is_foretold(program, seed, script)
+        script = Script(seed, gap=gap, skips=gap > 0)
+        if 0 < gap <= MANY and script.replies != Script(seed, gap=gap).replies:
+            print(f"script {seed}: the evaluator itself differs where it skips no instant")
+            return True
+        good += is_foretold(program, seed, script, ways)
         rows += sum(len(it.get("rows", [])) for it in script.replies)
         faults += sum("error" in it for it in script.replies)
     print(f"{good} of {count} scripts as foretold, with {rows} answers and {faults} faults, "
-          f"each in {len(WAYS)} ways")
+          f"each in {len(ways)} ways")
     return good < count
 
 
 if __name__ == "__main__":
-    sys.exit(main(sys.argv[1], int(sys.argv[2]), int(sys.argv[3])))
+    sys.exit(main(sys.argv[1], *map(int, sys.argv[2:])))

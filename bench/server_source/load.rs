@@ -386,7 +386,8 @@ fn curve(words: &[String]) -> Outcome<()> {
     link.catch_up(0, left)
 }
 
-/// The bytes that stay for each take that finds nothing.
+/// The bytes that stay for each take that finds nothing, by the peaks of memory after so many takes
+/// and after as many more. The server has to forget within the first ones.
 fn empty(words: &[String]) -> Outcome<()> {
     let [place, process, count] = words else {
         return Err("bad words".into());
@@ -403,9 +404,9 @@ fn empty(words: &[String]) -> Outcome<()> {
         Ok(())
     };
     takes(count)?;
-    let before = memory(process, "VmRSS")?;
+    let before = memory(process, "VmHWM")?;
     takes(count)?;
-    let more = memory(process, "VmRSS")?.saturating_sub(before) * 1_024;
+    let more = memory(process, "VmHWM")?.saturating_sub(before) * 1_024;
     eprintln!("bytes {}", more as f64 / count as f64);
     Ok(())
 }

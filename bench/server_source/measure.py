@@ -35,7 +35,7 @@ class Sizes(NamedTuple):
     instants: int  # of a run whose instructions are counted
 
 
-FULL = Sizes(3, 4.0, 20_000, 1_000_000, 400, 1_000_000, 200_000, 2_000)
+FULL = Sizes(3, 4.0, 20_000, 1_000_000, 400, 1_000_000, 2_000_000, 2_000)
 QUICK = Sizes(1, 0.3, 500, 50_000, 20, 10_000, 3_000, 40)
 
 

@@ -18,10 +18,12 @@ WORKERS = 4
 TAKE = 4_096
 DONE = {"ok": True}
 TOO_MANY = {"error": "E18 TooManyLeases"}  # as many turns are out as may be
-UNKNOWN = {"error": "N2 BadRequest"}  # what a server without status answers
 PAUSE = 0.05  # seconds between two times that rows are forgotten
-PATIENCE = 60.0  # seconds that answers may stay away
+PATIENCE = 60.0  # seconds for which nothing of a query may change while it is not complete
+NAPS = 0.001, 0.05  # seconds between two looks at the status: the first ones, and the last
 SAMPLES = 200  # looks at the server's memory
+FLAT = 1.2  # times the first tenth's memory that the last tenth may have
+DROPPED = 3_000  # bytes that stay of a dropped query, in the engine and in the last opening
 PLAIN = threading.Semaphore(os.cpu_count() or 1)  # plain engines at a time
 
 Json = dict[str, Any]
@@ -48,6 +50,12 @@ BAD_TEXTS = [
 ]
 
 
+class Sample(NamedTuple):
+    """A look at the server's memory."""
+    kib: int  # resident
+    queries: int  # that were registered and dropped by then
+
+
 class Step(NamedTuple):
     """A request whose reply a plain engine gives alike."""
     request: Json
@@ -60,6 +68,8 @@ class WrongError(Exception):
 
 def how_wrong(rows: list[Row], right: list[Row]) -> str:
     """Says how answers differ from the right ones."""
+    if rows == right:
+        return f"all {len(right)} answers"
     if rows == right[:len(rows)]:
         return f"a prefix: {len(rows)} of {len(right)} answers"
     at = next(i for i, row in enumerate(rows) if i >= len(right) or row != right[i])
@@ -107,13 +117,14 @@ class Client(Line):
         self.stream = f"S{number}"
         self.draw = random.Random(f"{seed} {number}")
         self.closed = -1
+        self.appended = 0  # rows
         self.open_rows: list[Row] = []  # accepted, and above what is closed
         self.steps: list[Step] = []  # of this life
         self.rows: list[Row] = []  # that were taken in this life
-        self.has_status = self.ask(op="status") != UNKNOWN
-        self.asked = self.lives = self.answers = self.refused = 0
-        self.short = 0  # queries that were short after they seemed complete
-        self.longest = 0.0  # seconds until their answers were all there
+        self.base = self.upto = -1  # of this life's query
+        self.asked = self.lives = self.answers = self.refused = self.looks = 0
+        self.longest = 0.0  # seconds until a query was complete
+        self.until = 0.0  # when to end
 
     def tell(self, **request: Any) -> Json:
         """Asks what a plain engine answers alike, whatever was drained and taken."""
@@ -134,26 +145,58 @@ class Client(Line):
             bad[0:] = self.draw.choice([[self.closed, 1, 1], bad[:2], [bad[0], 2**50, 0]])
         return rows
 
-    def drain(self) -> bool:
-        """Drains, and returns whether it was done: it may find 64 turns out."""
+    def drain(self) -> None:
+        """Drains. It may find 64 turns out."""
         reply = self.ask(op="drain")
         self.asked += 1
         if reply == TOO_MANY:
             self.refused += 1
-            return False
-        if reply != DONE:
+        elif reply != DONE:
             raise WrongError(f"a drain was answered {reply}")
-        return True
+
+    def shown(self, op: str, name: str, limit: int) -> list[Row]:
+        """Takes or peeks, and returns the answers that came."""
+        reply = self.ask(op=op, query=name, limit=limit)
+        self.asked += 1
+        rows: list[Row] = reply.get("rows", [])
+        if ("rows" not in reply or len(rows) > limit
+                or any((row[0] or 0) > self.closed for row in rows)):
+            raise WrongError(f"a {op} of {limit} up to {self.closed} was answered {reply}")
+        return rows
 
     def take(self, name: str, limit: int) -> int:
         """Takes, and returns how many answers came."""
-        reply = self.ask(op="take", query=name, limit=limit)
-        self.asked += 1
-        rows: list[Row] = reply["rows"]
-        if len(rows) > limit or any((row[0] or 0) > self.closed for row in rows):
-            raise WrongError(f"a take of {limit} up to {self.closed} was answered {reply}")
+        rows = self.shown("take", name, limit)
         self.rows += rows
         return len(rows)
+
+    def peek(self, name: str, limit: int) -> None:
+        """Peeks, and takes at once: what was seen comes first."""
+        seen = self.shown("peek", name, limit)
+        taken = self.shown("take", name, limit)
+        self.rows += taken
+        if seen != taken[:len(seen)]:
+            raise WrongError(f"a peek showed {seen}, and the take after it {taken}")
+
+    def look(self, name: str) -> Json:
+        """Asks for the status, compares what is known of it, and returns the query's."""
+        reply = self.ask(op="status")
+        self.asked += 1
+        self.looks += 1
+        if reply.get("ok") is not True:
+            raise WrongError(f"a status was answered {reply}")
+        stream = next(it for it in reply["streams"] if it["name"] == self.stream)
+        right = {"closed": self.closed, "columns": ["k", "v"], "name": self.stream,
+                 "rows": self.appended}
+        if stream != right:
+            raise WrongError(f"a status shows {stream}, and {right} is right")
+        query: Json = next(it for it in reply["queries"] if it["name"] == name)
+        if ((query["base"], query["taken"]) != (self.base, len(self.rows))
+                or not self.upto <= query["upto"] <= self.closed):
+            raise WrongError(f"a status shows {query}, after base {self.base}, upto {self.upto}, "
+                             f"closed {self.closed} and {len(self.rows)} answers taken")
+        self.upto = query["upto"]
+        return query
 
     def live(self) -> None:
         """Registers a query, works, and drops it once all of its closed answers were taken."""
@@ -161,6 +204,7 @@ class Client(Line):
         declared = {"op": "stream", "name": self.stream, "columns": ["k", "v"],
                     "from": self.closed + 1}
         self.rows, self.steps = [], [Step(declared, DONE)]
+        self.base = self.upto = self.closed
         if self.open_rows:
             before = {"op": "append", "stream": self.stream, "rows": list(self.open_rows)}
             self.steps.append(Step(before, DONE))
@@ -170,78 +214,65 @@ class Client(Line):
                 raise WrongError(f"{bad} was accepted")
         text = self.draw.choice(TEXTS).format(s=self.stream)
         self.tell(op="query", name=name, text=text)
-        for _ in range(self.draw.randrange(4, 16)):
-            rows = self.some_rows()
-            if "ok" in self.tell(op="append", stream=self.stream, rows=rows):
-                self.open_rows += rows
-            at = self.closed + self.draw.randrange(3)
-            if "ok" in self.tell(op="heartbeat", stream=self.stream, at=at):
-                self.closed = at
-                self.open_rows = [row for row in self.open_rows if (row[0] or 0) > at]
-            if self.draw.randrange(2) == 0:
+        # a short life or a long one
+        for _ in range(self.draw.randrange(*self.draw.choice([(4, 16), (40, 120)]))):
+            if time.monotonic() > self.until:
+                break
+            self.feed()
+            choice = self.draw.randrange(8)
+            if choice < 2:
                 self.drain()
+            if choice < 4:
                 self.take(name, self.draw.choice([1, 7, TAKE]))
+            elif choice == 4:
+                self.peek(name, self.draw.choice([1, 7, TAKE]))
+            elif choice == 5:
+                self.look(name)
             if self.draw.randrange(10) == 0:
-                self.tell(op="take", query="nothing", limit=1)
-        if self.has_status:
-            self.wait_for(name)
-        else:
-            self.find_nothing(name)
-        self.compare(name, text)
+                self.tell(op=self.draw.choice(["take", "peek"]), query="nothing", limit=1)
+        query = self.waited_for(name)
+        count = len(self.rows) + int(query["waiting"])
+        while self.take(name, TAKE) > 0:
+            pass
+        right = self.right(name)
+        if query["upto"] < self.closed or len(self.rows) != count or self.rows != right:
+            raise WrongError(f"client {self.number}: {text}: {how_wrong(self.rows, right)}; the "
+                             f"status showed {count} answers, complete up to {query['upto']} of "
+                             f"{self.closed}")
         if self.ask(op="drop", query=name) != DONE:
             raise WrongError("a drop was refused")
         self.lives += 1
         self.answers += len(self.rows)
 
-    def wait_for(self, name: str) -> None:
-        """Waits until the query is complete up to what is closed, and takes all."""
-        begun = time.monotonic()
-        while True:
-            self.drain()
-            queries: list[Json] = self.ask(op="status")["queries"]
-            mine = next(it for it in queries if it["name"] == name)
-            if mine["upto"] >= self.closed:
+    def feed(self) -> None:
+        """Appends some rows, and closes some instants."""
+        rows = self.some_rows()
+        if "ok" in self.tell(op="append", stream=self.stream, rows=rows):
+            self.open_rows += rows
+            self.appended += len(rows)
+        at = self.closed + self.draw.randrange(3)
+        if "ok" in self.tell(op="heartbeat", stream=self.stream, at=at):
+            self.closed = at
+            self.open_rows = [row for row in self.open_rows if (row[0] or 0) > at]
+
+    def waited_for(self, name: str) -> Json:
+        """Waits until the query is complete up to what is closed, and returns its status.
+
+        The server's workers do the work: this client does not drain any more. It gives up if
+        nothing of the query changes for long. A turn that stays away for good shows so.
+        """
+        begun = changed = time.monotonic()
+        nap, before = NAPS[0], None
+        while (query := self.look(name))["upto"] < self.closed:
+            now, numbers = time.monotonic(), (query["upto"], query["waiting"])
+            if numbers != before:
+                before, changed, nap = numbers, now, NAPS[0]
+            if now - changed > PATIENCE:
                 break
-            if time.monotonic() - begun > PATIENCE:
-                raise WrongError(f"{name} stays at {mine['upto']} of {self.closed}")
-            time.sleep(0.001)
-        while self.take(name, TAKE) > 0:
-            pass
-
-    def find_nothing(self, name: str) -> None:
-        """Drains and takes until five drains, some time after each other, found nothing."""
-        found_nothing, begun = 0, time.monotonic()
-        while found_nothing < 5:
-            is_done = self.drain()
-            if self.take(name, TAKE) > 0:
-                found_nothing = 0
-            else:
-                found_nothing += is_done
-                time.sleep(0.002 * max(1, found_nothing))
-            if time.monotonic() - begun > PATIENCE and not is_done:
-                raise WrongError("drains are refused for good")
-
-    def compare(self, name: str, text: str) -> None:
-        """Compares this life with a plain engine's, and waits where answers are still missing."""
-        right = self.right(name)
-        begun = time.monotonic()
-        if self.rows == right:
-            return
-        said = f"{text}: {how_wrong(self.rows, right)}"
-        if self.has_status or self.rows != right[:len(self.rows)]:
-            raise WrongError(f"client {self.number}: {said}")
-        self.short += 1
-        drains = 0
-        while len(self.rows) < len(right) and time.monotonic() - begun < PATIENCE:
-            drains += self.drain()
-            self.take(name, TAKE)
-        took = time.monotonic() - begun
-        self.longest = max(self.longest, took)
-        if self.rows != right:
-            late = how_wrong(self.rows, right)
-            raise WrongError(f"client {self.number}: {said}; after {took:.0f} s {late}")
-        print(f"client {self.number}, {said}; all were there {took * 1000:.1f} ms later, after "
-              f"{drains} drains more", flush=True)
+            time.sleep(nap)
+            nap = min(2 * nap, NAPS[1])
+        self.longest = max(self.longest, time.monotonic() - begun)
+        return query
 
     def right(self, name: str) -> list[Row]:
         """Returns the right answers, and compares all other replies."""
@@ -270,6 +301,7 @@ class Client(Line):
         declared = self.ask(op="stream", name=self.stream, columns=["k", "v"], **{"from": 0})
         if declared != DONE:
             raise WrongError(f"a stream was answered {declared}")
+        self.until = until
         while time.monotonic() < until:
             self.live()
 
@@ -294,15 +326,30 @@ def resident(process: int) -> int:
     return next(int(line.split()[1]) for line in text.split("\n") if line.startswith("VmRSS:"))
 
 
-def say_memory(samples: list[int]) -> None:
-    """Prints the mean of each tenth of the samples, and the last over the first."""
-    size = len(samples) // 10
-    if size == 0:
+def tenths_of(numbers: list[float]) -> list[float]:
+    """Returns the mean of each tenth of some numbers."""
+    size = len(numbers) // 10
+    return [sum(numbers[i * size:(i + 1) * size]) / size for i in range(10)]
+
+
+def say_memory(samples: list[Sample]) -> None:
+    """Prints the memory by tenths of the run, the last over the first, and if it is flat.
+
+    What stays of each dropped query does not count: that is known, and it is printed.
+    """
+    if len(samples) < 10:
+        print("the run was too short to say whether memory is flat")
         return
-    tenths = [sum(samples[i * size:(i + 1) * size]) / size / 1024 for i in range(10)]
+    whole = tenths_of([it.kib / 1024 for it in samples])
+    dropped = tenths_of([it.queries * DROPPED / 2**20 for it in samples])
     print("resident memory by tenths of the run, MiB: "
-          + ", ".join(f"{tenth:.1f}" for tenth in tenths))
-    print(f"the last tenth is {tenths[-1] / tenths[0]:.2f} times the first", flush=True)
+          + ", ".join(f"{tenth:.1f}" for tenth in whole))
+    print(f"of it by dropped queries, {DROPPED:,} bytes each: "
+          + ", ".join(f"{tenth:.1f}" for tenth in dropped))
+    ratio = (whole[-1] - dropped[-1]) / (whole[0] - dropped[0])
+    verdict = "flat" if ratio <= FLAT else "not flat"
+    print(f"the rest is in the last tenth {ratio:.2f} times that in the first: {verdict}",
+          flush=True)
 
 
 def main() -> int:
@@ -316,22 +363,23 @@ def main() -> int:
         threads = [threading.Thread(target=line.run, args=(until,)) for line in lines]
         for thread in threads:
             thread.start()
-        samples: list[int] = []
+        samples: list[Sample] = []
         while time.monotonic() < until and any(thread.is_alive() for thread in threads):
-            samples.append(resident(server.process.pid))
+            lives = sum(it.lives for it in clients)
+            samples.append(Sample(resident(server.process.pid), lives))
             time.sleep(60 * minutes / SAMPLES)
         for thread in threads:
             thread.join()
         seconds = time.monotonic() - begun
         status, errors = server.ended()
-    way = "status" if clients[0].has_status else "drains and takes"
     print(f"{CLIENTS} clients, {WORKERS} workers: {sum(it.asked for it in clients)} requests in "
-          f"{seconds:.0f} s, {sum(it.lives for it in clients)} queries, by {way}")
+          f"{seconds:.0f} s, {sum(it.lives for it in clients)} queries, "
+          f"{sum(it.looks for it in clients)} looks at the status")
     print(f"rows were forgotten {forgetter.count} times")
     print(f"{sum(it.refused for it in clients)} drains were refused by E18, since 64 turns were "
           "out")
-    print(f"{sum(it.short for it in clients)} queries were short after five drains that found "
-          f"nothing, for at most {max(it.longest for it in clients) * 1000:.0f} ms more")
+    print("a query was complete after its last heartbeat in at most "
+          f"{max(it.longest for it in clients) * 1000:.0f} ms")
     say_memory(samples)
     faults = [line.fault for line in lines if line.fault]
     if faults or (status, errors) != (0, ""):

@@ -5,9 +5,7 @@ from __future__ import annotations
 import asyncio
 import math
 import socket
-import time
 from abc import ABC, abstractmethod
-from collections import deque
 from collections.abc import AsyncIterable, AsyncIterator, Iterable, Sequence
 from contextlib import asynccontextmanager
 from types import TracebackType
@@ -21,12 +19,15 @@ from .faults import (
     CannotConnect,
     Closed,
     ConnectionLost,
-    CqldError,
     Refused,
     Request,
     TimedOut,
 )
 from .follow import Beat, Decoder
+from .parts import part_steps
+from .sources import sources_of
+from .steps import NOTHING, Line, Nap, Steps, advance_async
+from .waiting import Asked, Batched, Retries, Waiting
 from .wire import (
     ROWS,
     TAKE,
@@ -37,7 +38,6 @@ from .wire import (
     Status,
     line_of,
     operators_of,
-    reply_of,
     rows_of,
     status_of,
 )
@@ -45,14 +45,12 @@ from .wire import (
 _LONGEST = 1 << 27  # bytes of a reply
 
 
-class AsyncPending:
+class AsyncPending(Asked):
     """Is a request that was sent. Its reply comes once the replies before it have come."""
 
     def __init__(self, client: "AsyncClient", request: Request) -> None:
-        self.request = request
-        self.answer: Reply | None = None
+        super().__init__(request)
         self.lost: ConnectionLost | None = None
-        self.is_late = False  # nobody waits for it any longer: `settle` returns it
         self.done = asyncio.Event()
         self._client = client
 
@@ -62,8 +60,8 @@ class AsyncPending:
         Raises `Refused`, `TimedOut` or `ConnectionLost`. After a time-out it can be asked again.
         """
         answer = await self._client._answer(self, timeout)
-        if "error" in answer:
-            raise Refused(answer["error"], self.request)
+        if (refused := self._refusal()) is not None:
+            raise refused
         return answer
 
 
@@ -71,12 +69,29 @@ class AsyncCalls(ABC):
     """Has the calls whose replies say nothing. See `Client` for each."""
 
     columns: dict[str, tuple[str, ...]]
+    sources: dict[str, tuple[str, ...]]
 
     @abstractmethod
     async def _tell_line(
         self, request: Request, line: bytes, timeout: Seconds | None, waits: bool
     ) -> None:
         """Sends a request. In a batch its reply is read at the end, unless it `waits`."""
+
+    async def _advance(self, steps: Steps[AsyncPending], timeout: Seconds | None) -> Any:
+        """Carries steps of a call out, and returns what they find: see `advance_async`."""
+        return await advance_async(steps, self._carry_out, timeout)
+
+    async def _carry_out(
+        self, step: AsyncPending | Line | Nap, timeout: Seconds | None
+    ) -> Reply:
+        """Carries out a step of a call, and returns its reply, if it has one."""
+        if isinstance(step, AsyncPending):
+            return await step.reply(timeout)
+        if isinstance(step, Line):
+            await self._tell_line(step.request, step.line, timeout, step.waits)
+        else:
+            await asyncio.sleep(step.seconds)
+        return NOTHING
 
     async def _tell(self, op: str, timeout: Seconds | None, **keys: Any) -> None:
         """Sends a request whose reply says nothing."""
@@ -104,6 +119,7 @@ class AsyncCalls(ABC):
         """Registers a query. A chart has a cost and a size for each operator, by its number."""
         keys = {} if chart is None else {"chart": [list(pair) for pair in chart]}
         await self._tell("query", timeout, name=name, text=text, **keys)
+        self.sources[name] = sources_of(text)
 
     async def append(
         self,
@@ -121,22 +137,7 @@ class AsyncCalls(ABC):
         """
         call = Appending(stream, self.columns.get(stream), skip, schema)
         async for chunk in _chunks(call, rows):
-            steps = call.steps(chunk)
-            outcome: Refused | None = None
-            try:
-                part = next(steps)
-                while True:
-                    try:
-                        waits = skip is not None
-                        await self._tell_line(part.request, part.line, timeout, waits)
-                        outcome = None
-                    except Refused as refused:
-                        outcome = refused
-                    except CqldError as error:
-                        steps.throw(error)
-                    part = steps.send(outcome)
-            except StopIteration:
-                pass
+            await self._advance(call.steps(chunk), timeout)
         return call.taken
 
     async def heartbeat(self, stream: str, at: int, *, timeout: Seconds | None = None) -> None:
@@ -150,20 +151,21 @@ class AsyncCalls(ABC):
     async def drop(self, query: str, *, timeout: Seconds | None = None) -> None:
         """Drops a query. What was not taken is gone."""
         await self._tell("drop", timeout, query=query)
+        self.sources.pop(query, None)
 
     async def forget(self, *, timeout: Seconds | None = None) -> None:
         """Lets go of the rows that no query needs any longer. No later reply changes."""
         await self._tell("forget", timeout)
 
 
-class AsyncBatch(AsyncCalls):
+class AsyncBatch(Batched[AsyncPending], AsyncCalls):
     """Sends calls one after the other. `refusals` has those of its requests, once it has ended."""
 
     def __init__(self, client: "AsyncClient") -> None:
         """Is what `batch` of a client yields."""
+        super().__init__()
         self.columns = client.columns
-        self.sent: deque[AsyncPending] = deque()  # whose replies were not looked at yet
-        self.refusals: list[Refused] = []
+        self.sources = client.sources
         self._client = client
 
     async def _tell_line(
@@ -188,21 +190,8 @@ class AsyncBatch(AsyncCalls):
             self._leave()
             raise
 
-    def _note(self) -> None:
-        """Looks at the replies that have come."""
-        while self.sent and self.sent[0].answer is not None:
-            pending = self.sent.popleft()
-            answer = pending.answer
-            if answer is not None and "error" in answer:
-                self.refusals.append(Refused(answer["error"], pending.request))
 
-    def _leave(self) -> None:
-        """Leaves the replies that did not come yet to `settle`."""
-        for pending in self.sent:
-            pending.is_late = True
-
-
-class AsyncClient(AsyncCalls):
+class AsyncClient(Waiting[AsyncPending], AsyncCalls):
     """Is a connection to a `cqld`. Its calls are those of `Client`, and raise the same errors.
 
         async with AsyncClient(7711, timeout=30) as client:
@@ -218,15 +207,14 @@ class AsyncClient(AsyncCalls):
         self, port: int, host: str = "127.0.0.1", timeout: Seconds | None = None
     ) -> None:
         """Takes where the server is. `timeout` is in seconds, for the connection and each call."""
+        super().__init__()
         self.port = port
         self.host = host
         self.timeout = timeout
         self.columns = {}
-        self._waiting: deque[AsyncPending] = deque()
-        self._late: list[AsyncPending] = []
+        self.sources = {}  # of the queries that it registered
         self._writer: asyncio.StreamWriter | None = None
         self._reading: asyncio.Task[None] | None = None
-        self._lost: ConnectionLost | None = None
 
     async def __aenter__(self) -> "AsyncClient":
         await self.connect()
@@ -324,8 +312,7 @@ class AsyncClient(AsyncCalls):
         """
         if self._waiting:
             await self._wait(self._waiting[-1], timeout)
-        late, self._late = self._late, []
-        return [(it.request, it.answer) for it in late if it.answer is not None]
+        return self._settled()
 
     async def reconnect(self, timeout: Seconds | None = None) -> tuple[Request, ...]:
         """Connects anew, and returns the requests whose outcome is unknown.
@@ -333,20 +320,17 @@ class AsyncClient(AsyncCalls):
         See `Client.reconnect`. It tries again until `timeout` seconds are over, and then raises
         `CannotConnect`.
         """
-        unknown = self._lost.unknown if self._lost is not None else tuple(self._requests())
+        unknown = self._unknown()
         await self.close()
-        seconds = timeout if timeout is not None else self.timeout
-        until = math.inf if seconds is None else time.monotonic() + seconds
-        pause = 0.01
+        retries = Retries(timeout if timeout is not None else self.timeout)
         while True:
             try:
-                await self.connect(max(0.001, min(until - time.monotonic(), 3_600)))
+                await self.connect(retries.patience())
                 return unknown
             except CannotConnect:
-                if seconds is None or time.monotonic() + pause > until:
+                if (pause := retries.pause()) is None:
                     raise
             await asyncio.sleep(pause)
-            pause = min(2 * pause, 1.0)
 
     # Calls
 
@@ -366,16 +350,29 @@ class AsyncClient(AsyncCalls):
         return rows_of(await self.ask("peek", timeout=timeout, query=query, limit=limit))
 
     async def answers(
-        self, query: str, *, timeout: Seconds | None = None
+        self, query: str, upto: int | None = None, *, timeout: Seconds | None = None
     ) -> AsyncIterator[Row]:
-        """Yields answers until a drain and a take find none."""
-        while True:
-            await self.ask("drain", timeout=timeout)
-            rows = await self.take(query, timeout=timeout)
-            if not rows:
-                return
+        """Yields answers, and ends once all of them up to the instant `upto` were taken.
+
+        It has the rules of `Client.answers`.
+        """
+        async for rows in self.parts(query, upto, timeout=timeout):
             for row in rows:
                 yield row
+
+    async def parts(
+        self,
+        query: str,
+        upto: int | None = None,
+        *,
+        sources: Sequence[str] | None = None,
+        timeout: Seconds | None = None,
+    ) -> AsyncIterator[list[Row]]:
+        """Yields what `answers` does, in lists as they were taken. See `Client.parts`."""
+        known = self.sources.get(query, ()) if sources is None else sources
+        steps = part_steps(self.send, query, known, False, upto)
+        while (rows := await self._advance(steps, timeout)) is not None:
+            yield rows
 
     @overload
     def follow(
@@ -434,7 +431,8 @@ class AsyncClient(AsyncCalls):
         never. Where nothing came for `beat` seconds it yields a `Beat`. It asks for at most
         `limit` answers at a time. A `decoder`, as `Answers`, turns rows into answers.
         """
-        return AsyncFollow(self, query, pause, deadline, beat, limit, decoder, timeout)
+        known = self.sources.get(query, ())
+        return AsyncFollow(self, query, known, pause, deadline, beat, limit, decoder, timeout)
 
     async def plan(self, query: str, *, timeout: Seconds | None = None) -> list[Operator]:
         """Returns each operator's kind and slope, by its number."""
@@ -464,9 +462,7 @@ class AsyncClient(AsyncCalls):
 
     async def _answer(self, pending: AsyncPending, timeout: Seconds | None) -> Reply:
         """Waits for the reply of a request."""
-        if pending.is_late:
-            pending.is_late = False
-            self._late = [it for it in self._late if it is not pending]
+        self._want(pending)
         try:
             await self._wait(pending, timeout)
         except BaseException:
@@ -496,14 +492,7 @@ class AsyncClient(AsyncCalls):
             while (line := await reader.readline()).endswith(b"\n"):
                 # a server may hold the next reply back until this one is acknowledged
                 made.setsockopt(socket.IPPROTO_TCP, socket.TCP_QUICKACK, 1)
-                reply = reply_of(line)
-                if not self._waiting:
-                    raise BadReply("a reply came that no request waits for")
-                pending = self._waiting.popleft()
-                pending.answer = reply
-                if pending.is_late:
-                    self._late.append(pending)
-                pending.done.set()
+                self._match(line).done.set()
             self._let_go(ConnectionLost("the server closed the connection", self._requests()))
         except (BadReply, ValueError) as error:
             self._let_go(BadReply(str(getattr(error, "reason", error)), self._requests()))
@@ -521,10 +510,6 @@ class AsyncClient(AsyncCalls):
             pending = self._waiting.popleft()
             pending.lost = lost
             pending.done.set()
-
-    def _requests(self) -> list[Request]:
-        """Returns the requests that have no reply."""
-        return [it.request for it in self._waiting]
 
 
 async def _chunks(

@@ -11,10 +11,10 @@ from itertools import islice
 from typing import Any, NamedTuple, Protocol
 
 from .faults import BadRequest, BadRow, BadValue, CqldError, LateRow, Refused, Request
-from .wire import LAST, ROWS, VALUE, Row, line_of
+from .steps import Line
+from .wire import LAST, ROWS, VALUE, Reply, Row, line_of
 
 Skip = Callable[[BadRow], object]
-Steps = Generator["Part", Refused | None, None]
 
 _OF_A_ROW = frozenset(("E7", "E8", "E9", "E10"))
 _KINDS = {int, type(None)}
@@ -39,13 +39,6 @@ class RowSchema(Protocol):
 
     def encode(self, row: Any) -> Row:
         """Returns the numbers of a row. Raises `BadValue`."""
-
-
-class Part(NamedTuple):
-    """Is an append that is to be sent: the request, and its line."""
-
-    request: Request
-    line: bytes
 
 
 class _Unfit(NamedTuple):
@@ -129,10 +122,10 @@ class Appending:
             error.taken = self.taken
         return error
 
-    def steps(self, chunk: Sequence[Any]) -> Steps:
-        """Yields each append that is to be sent, and is sent the refusal or None.
+    def steps(self, chunk: Sequence[Any]) -> Generator[Line, Reply, None]:
+        """Yields each append that is to be sent. Where rows are skipped, each of them waits.
 
-        Raises `BadRow` at a bad row where rows are not skipped, and else what it is sent.
+        Raises `BadRow` at a bad row where rows are not skipped, and else the client's errors.
         """
         first = self._read
         self._read += len(chunk)
@@ -166,20 +159,21 @@ class Appending:
 
     def _send(
         self, rows: list[Row], part: tuple[int, int], todo: list[tuple[int, int]]
-    ) -> Generator[Part, Refused | None, str | None]:
+    ) -> Generator[Line, Reply, str | None]:
         """Yields an append. Returns the fault of some row of it, or None where all were taken."""
         request = {"op": "append", "stream": self._stream, "rows": rows}
         try:
             line = line_of(request)
         except BadRequest:
             return "N3 LineTooLong"
-        refused = yield Part(request, line)
-        if refused is None:
-            return None
-        if refused.code not in _OF_A_ROW:
-            todo.append(part)
-            raise refused
-        return refused.fault
+        try:
+            yield Line(request, line, self._skip is not None)
+        except Refused as refused:
+            if refused.code not in _OF_A_ROW:
+                todo.append(part)
+                raise
+            return refused.fault
+        return None
 
     def _cells(self, row: Any) -> _Cells:
         """Returns the numbers of a row, or what is wrong with it."""

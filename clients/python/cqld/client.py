@@ -71,6 +71,8 @@ class Process(Connection):
     engine without streams and queries. `pid` is the number of its process.
     """
 
+    is_alone = True
+
     def __init__(
         self,
         program: Program | None = None,

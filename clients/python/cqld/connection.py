@@ -5,7 +5,6 @@ from __future__ import annotations
 import math
 import time
 from abc import ABC, abstractmethod
-from collections import deque
 from collections.abc import Iterable, Iterator, Sequence
 from contextlib import contextmanager
 from types import TracebackType
@@ -24,6 +23,10 @@ from .faults import (
     TimedOut,
 )
 from .follow import Beat, Decoder, Follow
+from .parts import part_steps
+from .sources import sources_of
+from .steps import NOTHING, Line, Nap, Steps, advance
+from .waiting import Asked, Batched, Retries, Waiting
 from .wire import (
     TAKE,
     Link,
@@ -34,7 +37,6 @@ from .wire import (
     Status,
     line_of,
     operators_of,
-    reply_of,
     rows_of,
     status_of,
 )
@@ -45,13 +47,11 @@ _SENT = 512  # requests that a batch sends before it looks for replies
 Self = TypeVar("Self", bound="Connection")
 
 
-class Pending:
+class Pending(Asked):
     """Is a request that was sent. Its reply comes once the replies before it have come."""
 
     def __init__(self, connection: "Connection", request: Request, begin: int) -> None:
-        self.request = request
-        self.answer: Reply | None = None
-        self.is_late = False  # nobody waits for it any longer: `settle` returns it
+        super().__init__(request)
         self.begin = begin  # its first byte among all that were queued
         self._connection = connection
 
@@ -61,33 +61,24 @@ class Pending:
         Raises `Refused`, `TimedOut` or `ConnectionLost`. After a time-out it can be asked again.
         """
         answer = self._connection._answer(self, timeout)
-        if "error" in answer:
-            raise Refused(answer["error"], self.request)
+        if (refused := self._refusal()) is not None:
+            raise refused
         return answer
 
 
-class Batch:
+class Batch(Batched[Pending]):
     """Is what a batch has sent. Once it has ended, `refusals` has those of its requests."""
-
-    def __init__(self) -> None:
-        self.sent: deque[Pending] = deque()  # whose replies were not looked at yet
-        self.refusals: list[Refused] = []
 
     def note(self) -> None:
         """Looks at the replies that have come."""
-        while self.sent and self.sent[0].answer is not None:
-            pending = self.sent.popleft()
-            answer = pending.answer
-            if answer is not None and "error" in answer:
-                self.refusals.append(Refused(answer["error"], pending.request))
+        self._note()
 
     def leave(self) -> None:
         """Leaves the replies that did not come yet to `settle`."""
-        for pending in self.sent:
-            pending.is_late = True
+        self._leave()
 
 
-class Connection(ABC):
+class Connection(Waiting[Pending], ABC):
     """Has the calls of a client. Close it, or use it in a `with`. One thread at a time may use it.
 
     Each call sends a request, waits for the reply, and takes a `timeout` in seconds. Where that is
@@ -100,14 +91,15 @@ class Connection(ABC):
     - `Closed`, where the client was closed or has lost its connection before.
     """
 
+    is_alone = False  # whether nobody works but by a drain
+
     def __init__(self, timeout: Seconds | None) -> None:
+        super().__init__()
         self.timeout = timeout
         self.columns: dict[str, tuple[str, ...]] = {}
-        self._waiting: deque[Pending] = deque()
-        self._late: list[Pending] = []
+        self.sources: dict[str, tuple[str, ...]] = {}  # of the queries that it registered
         self._batch: Batch | None = None
         self._link: Link | None = None
-        self._lost: ConnectionLost | None = None
         self._link = self._open(timeout)
 
     def __enter__(self: Self) -> Self:
@@ -203,8 +195,7 @@ class Connection(ABC):
         seconds, deadline = self._until(timeout)
         while self._waiting:
             self._read(seconds, deadline)
-        late, self._late = self._late, []
-        return [(it.request, it.answer) for it in late if it.answer is not None]
+        return self._settled()
 
     def reconnect(self, timeout: Seconds | None = None) -> tuple[Request, ...]:
         """Connects anew, and returns the requests whose outcome is unknown.
@@ -213,22 +204,18 @@ class Connection(ABC):
         they were carried out. Replies that had come before, and that `settle` did not return yet,
         are kept. It tries again until `timeout` seconds are over, and then raises `CannotConnect`.
         """
-        unknown = self._lost.unknown if self._lost is not None else tuple(self._requests())
+        unknown = self._unknown()
         self._let_go()
-        seconds = timeout if timeout is not None else self.timeout
-        until = math.inf if seconds is None else time.monotonic() + seconds
-        pause = 0.01
+        retries = Retries(timeout if timeout is not None else self.timeout)
         while True:
             try:
-                self._link = self._open(max(0.001, min(until - time.monotonic(), 3_600)))
-                break
+                self._link = self._open(retries.patience())
+                self._lost = None
+                return unknown
             except CannotConnect:
-                if seconds is None or time.monotonic() + pause > until:
+                if (pause := retries.pause()) is None:
                     raise
-                time.sleep(pause)
-                pause = min(2 * pause, 1.0)
-        self._lost = None
-        return unknown
+            time.sleep(pause)
 
     def close(self) -> None:
         """Ends the connection. What was accepted stays with a server."""
@@ -256,6 +243,7 @@ class Connection(ABC):
         """Registers a query. A chart has a cost and a size for each operator, by its number."""
         keys = {} if chart is None else {"chart": [list(pair) for pair in chart]}
         self._tell("query", timeout, name=name, text=text, **keys)
+        self.sources[name] = sources_of(text)
 
     def append(
         self,
@@ -283,21 +271,7 @@ class Connection(ABC):
         """
         call = Appending(stream, self.columns.get(stream), skip, schema)
         for chunk in call.chunks(rows):
-            steps = call.steps(chunk)
-            outcome: Refused | None = None
-            try:
-                part = next(steps)
-                while True:
-                    try:
-                        self._tell_line(part.request, part.line, timeout, skip is not None)
-                        outcome = None
-                    except Refused as refused:
-                        outcome = refused
-                    except CqldError as error:
-                        steps.throw(error)
-                    part = steps.send(outcome)
-            except StopIteration:
-                pass
+            self._advance(call.steps(chunk), timeout)
         return call.taken
 
     def heartbeat(self, stream: str, at: int, *, timeout: Seconds | None = None) -> None:
@@ -326,17 +300,37 @@ class Connection(ABC):
         """
         return rows_of(self.ask("peek", timeout=timeout, query=query, limit=limit))
 
-    def answers(self, query: str, *, timeout: Seconds | None = None) -> Iterator[Row]:
-        """Yields answers until a drain and a take find none.
+    def answers(
+        self, query: str, upto: int | None = None, *, timeout: Seconds | None = None
+    ) -> Iterator[Row]:
+        """Yields answers, and ends once all of them up to the instant `upto` were taken.
 
-        Turns that other threads have out may bring more: `follow` waits for these.
+        By default that is the last instant that the query's streams had closed when the first
+        answer was asked for. A client knows the streams of the queries that it registered.
+
+        It looks at the status and leaves the work to a server's workers: see `Progress`. Without
+        `upto`, of a query of another client, and of programs without `status`, it ends where a
+        drain and a take find none.
         """
-        while True:
-            self.ask("drain", timeout=timeout)
-            rows = self.take(query, timeout=timeout)
-            if not rows:
-                return
+        for rows in self.parts(query, upto, timeout=timeout):
             yield from rows
+
+    def parts(
+        self,
+        query: str,
+        upto: int | None = None,
+        *,
+        sources: Sequence[str] | None = None,
+        timeout: Seconds | None = None,
+    ) -> Iterator[list[Row]]:
+        """Yields what `answers` does, in lists as they were taken.
+
+        `sources` names the streams that the query reads, where this client did not register it.
+        """
+        known = self.sources.get(query, ()) if sources is None else sources
+        steps = part_steps(self.send, query, known, self.is_alone, upto)
+        while (rows := self._advance(steps, timeout)) is not None:
+            yield rows
 
     @overload
     def follow(
@@ -395,7 +389,8 @@ class Connection(ABC):
         never. Where nothing came for `beat` seconds it yields a `Beat`. It asks for at most
         `limit` answers at a time. A `decoder`, as `Answers`, turns rows into answers.
         """
-        return Follow(self, query, pause, deadline, beat, limit, decoder, timeout)
+        known = self.sources.get(query, ())
+        return Follow(self, query, known, pause, deadline, beat, limit, decoder, timeout)
 
     def plan(self, query: str, *, timeout: Seconds | None = None) -> list[Operator]:
         """Returns each operator's kind and slope, by its number."""
@@ -411,12 +406,27 @@ class Connection(ABC):
     def drop(self, query: str, *, timeout: Seconds | None = None) -> None:
         """Drops a query. What was not taken is gone."""
         self._tell("drop", timeout, query=query)
+        self.sources.pop(query, None)
 
     def forget(self, *, timeout: Seconds | None = None) -> None:
         """Lets go of the rows that no query needs any longer. No later reply changes."""
         self._tell("forget", timeout)
 
     # Within
+
+    def _advance(self, steps: Steps[Pending], timeout: Seconds | None) -> Any:
+        """Carries steps of a call out, and returns what they find: see `advance`."""
+        return advance(steps, self._carry_out, timeout)
+
+    def _carry_out(self, step: Pending | Line | Nap, timeout: Seconds | None) -> Reply:
+        """Carries out a step of a call, and returns its reply, if it has one."""
+        if isinstance(step, Pending):
+            return step.reply(timeout)
+        if isinstance(step, Line):
+            self._tell_line(step.request, step.line, timeout, step.waits)
+        else:
+            time.sleep(step.seconds)
+        return NOTHING
 
     def _put(self, request: Request, line: bytes) -> Pending:
         """Writes a request."""
@@ -469,9 +479,7 @@ class Connection(ABC):
     def _answer(self, pending: Pending, timeout: Seconds | None) -> Reply:
         """Waits for the reply of a request, and for all replies before it."""
         seconds, deadline = self._until(timeout)
-        if pending.is_late:
-            pending.is_late = False
-            self._late = [it for it in self._late if it is not pending]
+        self._want(pending)
         try:
             while pending.answer is None:
                 self._read(seconds, deadline)
@@ -490,15 +498,9 @@ class Connection(ABC):
         except ConnectionError as error:
             raise self._ended(ConnectionLost, str(error)) from None
         try:
-            reply = reply_of(line)
-            if not self._waiting:
-                raise BadReply("a reply came that no request waits for")
+            self._match(line)
         except BadReply as error:
             raise self._ended(BadReply, error.reason) from None
-        pending = self._waiting.popleft()
-        pending.answer = reply
-        if pending.is_late:
-            self._late.append(pending)
 
     def _ended(self, kind: type[ConnectionLost], reason: str) -> ConnectionLost:
         """Lets go of a lost connection, and returns the error that says what is unknown."""
@@ -521,10 +523,6 @@ class Connection(ABC):
         if self._link is None:
             raise Closed()
         return self._link
-
-    def _requests(self) -> list[Request]:
-        """Returns the requests that have no reply."""
-        return [it.request for it in self._waiting]
 
     def _until(self, timeout: Seconds | None) -> tuple[Seconds, float | None]:
         """Returns the seconds of a call, and the monotonic time at which they are over."""

@@ -111,7 +111,7 @@ class Answers:
 
     The fields of an answer are `instant`, and a field for each item of the list: the alias, the
     name of the column, or `sum_amount` of `Sum(amount)` and `count` of `Count(*)`. A mean is a
-    float.
+    float. `streams` are the names of the streams that it reads.
     """
 
     def __init__(self, name: str, text: str, streams: Mapping[str, Schema]) -> None:
@@ -119,12 +119,19 @@ class Answers:
         declared = {it: schema.declared() for it, schema in streams.items()}
         self._rewritten = rewrite(text, declared, _numbering(streams.values()))
         self.text = self._rewritten.text
-        self._clock = _common_clock([streams[it] for it in self._rewritten.streams])
+        self.streams = tuple(self._rewritten.streams)
+        self._clock = _common_clock([streams[it] for it in self.streams])
         items = _item_types(self.text, streams)
         columns = self._rewritten.columns
         self._columns = [(it, items[it.place]) for it in columns]
         self.fields = ("instant", *_fields([it.name for it in columns]))
         self.kind = _tuples(_identifier(name), self.fields)
+
+    def instant(self, at: Instant) -> int:
+        """Returns the number of an instant. Raises `BadValue`."""
+        if self._clock is None and isinstance(at, datetime):
+            raise BadValue(at, "the streams have no clock, so their instants are whole numbers")
+        return (self._clock or Clock()).instant(at)
 
     def decode(self, row: Row) -> Any:
         """Returns the answer of a row, or None where `Having` or `Every` leaves it out.

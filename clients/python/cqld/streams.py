@@ -170,13 +170,19 @@ class Query:
         """Returns what `take` would, but leaves it waiting. See `Client.peek`."""
         return self.shape.decode_all(self._connection.peek(self.name, limit, timeout=timeout))
 
-    def answers(self, *, timeout: Seconds | None = None) -> Iterator[Any]:
-        """Yields answers until a drain and a take find none. Raises as `take`."""
-        while True:
-            self._connection.ask("drain", timeout=timeout)
-            rows = self._connection.take(self.name, timeout=timeout)
-            if not rows:
-                return
+    def answers(
+        self, upto: Instant | None = None, *, timeout: Seconds | None = None
+    ) -> Iterator[Any]:
+        """Yields answers, and ends once all of them up to the instant `upto` were taken.
+
+        By default that is what the query's streams have closed when the first is asked for. See
+        `Client.answers`. Raises as `take`.
+        """
+        goal = None if upto is None else self.shape.instant(upto)
+        parts = self._connection.parts(
+            self.name, goal, sources=self.shape.streams, timeout=timeout
+        )
+        for rows in parts:
             try:
                 answers = self.shape.decode_all(rows)
             except CqldError as error:
@@ -197,8 +203,9 @@ class Query:
 
         An answer that cannot be decoded is not taken.
         """
+        shape = self.shape
         return Follow(
-            self._connection, self.name, pause, deadline, beat, limit, self.shape, timeout
+            self._connection, self.name, shape.streams, pause, deadline, beat, limit, shape, timeout
         )
 
     def frame(self, answers: Iterable[Any] | None = None) -> Any:

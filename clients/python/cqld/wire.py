@@ -36,7 +36,8 @@ class Operator(NamedTuple):
 class QueryStatus(NamedTuple):
     """Describes a query: instants `base` and `upto`, and answers `taken` and `waiting`.
 
-    Its answers begin after `base` and are complete up to `upto`.
+    Its answers begin after `base`. Up to `upto` all of them were taken or wait. One that is
+    `broken` ran out of memory, and no more answers come.
     """
 
     name: str
@@ -44,10 +45,14 @@ class QueryStatus(NamedTuple):
     upto: int
     taken: int
     waiting: int
+    broken: bool = False
 
 
 class StreamStatus(NamedTuple):
-    """Describes a stream: its columns, its closed instant, and how many rows it was given."""
+    """Describes a stream: its columns, its last closed instant, and how many rows it was given.
+
+    What was forgotten counts in `rows`.
+    """
 
     name: str
     columns: tuple[str, ...]
@@ -114,11 +119,11 @@ def status_of(reply: Reply) -> Status:
         queries = [
             QueryStatus(
                 str(it["name"]), int(it["base"]), int(it["upto"]), int(it["taken"]),
-                int(it["waiting"]),
+                int(it["waiting"]), it.get("broken") is True,
             )
             for it in reply["queries"]
         ]
-    except (LookupError, TypeError, ValueError) as error:
+    except (AttributeError, LookupError, TypeError, ValueError) as error:
         raise BadReply("the reply to a status is not as described") from error
     return Status({it.name: it for it in streams}, {it.name: it for it in queries})
 

@@ -1,190 +1,118 @@
-"""Servers for tests: cqlrun behind a port, with `status` and `peek` that it answers by itself.
+"""Servers for what a real one cannot be made to do: to lie, to stall, to cut a line, to close."""
 
-Everything else goes to the real program, so the answers are real ones. What waits is taken from it
-at once and kept here, which is how `peek` can show it and `take` still hand it out.
-"""
 from __future__ import annotations
 
-import asyncio
 import json
-import os
-import subprocess
+import socket
 import threading
-import time
+from collections.abc import Callable, Iterator, Mapping
+from contextlib import contextmanager
 from typing import Any, TypeVar
 
-Told = dict[str, Any]
-Self = TypeVar("Self", bound="LineServer")
+from cqld import Process, Refused
+
+Answer = Callable[[Mapping[str, Any]], "Mapping[str, Any] | bytes | None"]
+Self = TypeVar("Self", bound="Fake")
 
 
-class LineServer:
-    """Answers each line by `answer`, on a port and in a thread of its own. Use it in a `with`."""
+@contextmanager
+def ignored(*kinds: type[BaseException]) -> Iterator[None]:
+    """Ends a `with` quietly where it raises one of the kinds."""
+    try:
+        yield
+    except kinds:
+        pass
 
-    def __init__(self, port: int = 0) -> None:
-        self.port = port
-        self._writers: set[asyncio.StreamWriter] = set()
-        self._loop: asyncio.AbstractEventLoop | None = None
-        self._listening = threading.Event()
-        self._failed: BaseException | None = None
-        self._thread = threading.Thread(target=self._run, daemon=True)
 
-    def answer(self, request: Told) -> Told:
-        """Answers a request."""
-        raise NotImplementedError
+class Fake:
+    """Answers the lines of connections by a function: a reply, bytes as they are, or None.
+
+    So it can send what no engine would, wait as long as it likes, and end the connection: None
+    does that. `requests` has all that came.
+    """
+
+    def __init__(self, answer: Answer) -> None:
+        self._answer = answer
+        self._listener = socket.create_server(("127.0.0.1", 0))
+        self.port: int = self._listener.getsockname()[1]
+        self.requests: list[Mapping[str, Any]] = []
+        self._open: list[socket.socket] = []
+        threading.Thread(target=self._accept, daemon=True).start()
 
     def __enter__(self: Self) -> Self:
-        self._thread.start()
-        self._listening.wait(180)
-        if self._failed is not None:
-            raise self._failed
         return self
 
     def __exit__(self, *_: object) -> None:
         self.close()
 
     def close(self) -> None:
-        """Ends all connections."""
-        loop, self._loop = self._loop, None
-        if loop is not None:
-            loop.call_soon_threadsafe(self._stop.set)
-            self._thread.join(30)
+        """Ends the server and its connections."""
+        for connection in [self._listener, *self._open]:
+            with ignored(OSError):
+                connection.shutdown(socket.SHUT_RDWR)
+            connection.close()
 
-    def _run(self) -> None:
-        try:
-            asyncio.run(self._serve())
-        except BaseException as error:  # told to the thread that waits
-            self._failed = error
-        finally:
-            self._listening.set()
+    def count(self, op: str) -> int:
+        """Returns how many requests of a kind came."""
+        return sum(request["op"] == op for request in self.requests)
 
-    async def _serve(self) -> None:
-        self._stop = asyncio.Event()
-        server = await self._listen()
-        self.port = server.sockets[0].getsockname()[1]  # type: ignore[attr-defined]
-        self._loop = asyncio.get_running_loop()
-        self._listening.set()
-        await self._stop.wait()
-        server.close()
-        for writer in self._writers:
-            writer.close()
+    def _accept(self) -> None:
+        with ignored(OSError):
+            while True:
+                connection, _ = self._listener.accept()
+                self._open.append(connection)
+                threading.Thread(target=self._serve, args=(connection,), daemon=True).start()
 
-    async def _listen(self) -> asyncio.AbstractServer:
-        """Listens on the port, which another program may have for a while."""
-        until = time.monotonic() + 150
-        while True:
-            try:
-                return await asyncio.start_server(self._connection, "127.0.0.1", self.port,
-                                                  limit=1 << 20)
-            except OSError:
-                if time.monotonic() > until:
-                    raise
-                await asyncio.sleep(0.2)
-
-    async def _connection(self, reader: asyncio.StreamReader,
-                          writer: asyncio.StreamWriter) -> None:
-        self._writers.add(writer)
-        try:
-            while line := await reader.readline():
-                reply = self.answer(json.loads(line))
-                writer.write(json.dumps(reply, separators=(",", ":")).encode() + b"\n")
-                await writer.drain()
-        except (ConnectionError, asyncio.CancelledError):
-            pass
-        finally:
-            self._writers.discard(writer)
-            writer.close()
+    def _serve(self, connection: socket.socket) -> None:
+        with ignored(OSError, ValueError), connection, connection.makefile("rb") as lines:
+            for line in lines:
+                request = json.loads(line)
+                self.requests.append(request)
+                reply = self._answer(request)
+                if reply is None:
+                    connection.shutdown(socket.SHUT_RDWR)
+                    return
+                data = reply if isinstance(reply, bytes) else json.dumps(reply).encode() + b"\n"
+                connection.sendall(data)
 
 
-class Standin(LineServer):
-    """Serves a real engine, and answers `status` and `peek` where it `peeks`."""
+class Standin(Fake):
+    """Passes requests on to a real cqlrun, and does three things that no real server does.
 
-    def __init__(self, program: str, port: int = 0, peeks: bool = True) -> None:
-        super().__init__(port)
-        self.peeks = peeks
-        self.requests: list[str] = []  # the `op` of each request
-        self._engine = subprocess.Popen([program], stdin=subprocess.PIPE, stdout=subprocess.PIPE)
-        self._streams: dict[str, Told] = {}
-        self._queries: dict[str, Told] = {}
-        self._waiting: dict[str, list[Any]] = {}
+    It refuses each request whose `op` is in `faults`, as a program without `peek` and `status`
+    does, or one whose turns are all out. It notes the requests, so that a test can count them. And
+    its work is never late: where it `works`, all of it is done before each request, and else only
+    a drain does any.
+    """
+
+    def __init__(
+        self, program: str | None = None, works: bool = True, timeout: float | None = None
+    ) -> None:
+        self.faults: dict[str, str] = {}
+        self._works = works
+        self._engine = Process(program, timeout=timeout)
+        self._lock = threading.Lock()
+        super().__init__(self.pass_on)
 
     def close(self) -> None:
-        """Ends all connections and the program."""
+        """Ends the server, its connections and the program."""
         super().close()
-        assert self._engine.stdin is not None and self._engine.stdout is not None
-        if self._engine.poll() is not None:
-            return
-        self._engine.stdin.close()
-        self._engine.wait(30)
-        self._engine.stdout.close()
+        with self._lock:
+            self._engine.close()
 
-    def answer(self, request: Told) -> Told:
-        """Answers a request."""
-        op = request["op"]
-        self.requests.append(op)
-        if op in ("status", "peek") and not self.peeks:
-            return {"error": "N2 BadRequest"}
-        if op == "status":
-            self._settle()
-            return self._status()
-        if op in ("peek", "take"):
-            self._settle()
-            return self._hand_out(request, op == "take")
-        reply = self._ask(request)
-        if "ok" in reply:
-            self._note(op, request)
-        return reply
+    def pass_on(self, request: Mapping[str, Any]) -> Mapping[str, Any] | None:
+        """Returns the program's reply to a request, or the fault that a test chose."""
+        if request["op"] in self.faults:
+            return {"error": self.faults[request["op"]]}
+        with self._lock:
+            try:
+                if self._works:
+                    self._engine.drain()
+                return self._engine.ask(**request)
+            except Refused as refused:
+                return {"error": refused.fault}
 
-    def _ask(self, request: Told) -> Told:
-        assert self._engine.stdin is not None and self._engine.stdout is not None
-        self._engine.stdin.write(json.dumps(request).encode() + b"\n")
-        self._engine.stdin.flush()
-        reply: Told = json.loads(self._engine.stdout.readline())
-        return reply
-
-    def _note(self, op: str, request: Told) -> None:
-        """Remembers what `status` tells."""
-        if op == "stream":
-            self._streams[request["name"]] = {
-                "closed": request["from"] - 1, "columns": request["columns"],
-                "name": request["name"], "rows": 0}
-        elif op == "append":
-            self._streams[request["stream"]]["rows"] += len(request["rows"])
-        elif op == "heartbeat":
-            self._streams[request["stream"]]["closed"] = request["at"]
-        elif op == "query":
-            name = request["name"]
-            closed = [stream["closed"] for stream in self._streams.values()]
-            self._queries[name] = {"base": max(closed, default=-1), "name": name, "taken": 0}
-            self._waiting[name] = []
-        elif op == "drop":
-            del self._queries[request["query"]], self._waiting[request["query"]]
-
-    def _settle(self) -> None:
-        """Takes all that waits in the program into what waits here."""
-        self._ask({"op": "drain"})
-        for name, waiting in self._waiting.items():
-            while rows := self._ask({"op": "take", "query": name, "limit": 4_096}).get("rows"):
-                waiting += rows
-
-    def _status(self) -> Told:
-        closed = min((stream["closed"] for stream in self._streams.values()), default=-1)
-        queries = [{**query, "upto": max(closed, query["base"]),
-                    "waiting": len(self._waiting[name])}
-                   for name, query in sorted(self._queries.items())]
-        return {"ok": True, "queries": queries, "streams": list(self._streams.values())}
-
-    def _hand_out(self, request: Told, taking: bool) -> Told:
-        name, limit = request["query"], request["limit"]
-        if name not in self._queries:
-            return {"error": "E6 UnknownQuery"}
-        rows = self._waiting[name][:limit]
-        if taking:
-            del self._waiting[name][:limit]
-            self._queries[name]["taken"] += len(rows)
-        return {"ok": True, "rows": rows}
-
-
-if __name__ == "__main__":
-    with Standin(os.environ.get("CQLRUN", "cqlrun"), int(os.environ.get("PORT", "7711"))) as it:
-        print(it.port, flush=True)
-        threading.Event().wait()
+    def taken(self, query: str) -> int:
+        """Returns how many answers of a query were taken, also where `status` is refused."""
+        with self._lock:
+            return self._engine.status().queries[query].taken

@@ -2,18 +2,15 @@
 
 from __future__ import annotations
 
-import json
 import os
 import shutil
 import socket
 import subprocess
 import sys
 import tempfile
-import threading
 import time
 import unittest
-from collections.abc import Callable, Iterator, Mapping
-from contextlib import contextmanager
+from collections.abc import Callable
 from pathlib import Path
 from typing import Any
 
@@ -22,11 +19,10 @@ ROOT = PACKAGE.parents[1]
 if str(PACKAGE) not in sys.path:
     sys.path.insert(0, str(PACKAGE))
 
-from cqld import Client, Process, Refused, Server
+from cqld import Client, Process, Server
+from standin import Answer, Fake, Standin, ignored
 
 PATIENCE = 120.0  # seconds that anything may take on a busy machine
-
-Answer = Callable[[Mapping[str, Any]], "Mapping[str, Any] | bytes | None"]
 
 
 def wait_until(condition: Callable[[], Any], seconds: float = PATIENCE) -> None:
@@ -65,113 +61,23 @@ class Case(unittest.TestCase):
         self.addCleanup(process.close)
         return process
 
-    def fake(self, answer: Answer) -> "Fake":
+    def fake(self, answer: Answer) -> Fake:
         """Returns a server that answers each request by a function."""
         fake = Fake(answer)
         self.addCleanup(fake.close)
         return fake
+
+    def standin(self, works: bool = True) -> Standin:
+        """Returns a server that passes requests on to a cqlrun. See `Standin` for `works`."""
+        standin = Standin(works=works, timeout=PATIENCE)
+        self.addCleanup(standin.close)
+        return standin
 
     def redis(self) -> "RedisServer":
         """Returns a redis-server of the test's own."""
         server = RedisServer(self.folder())
         self.addCleanup(server.close)
         return server
-
-
-class Fake:
-    """Answers the lines of connections by a function: a reply, bytes as they are, or None.
-
-    None ends the connection.
-    """
-
-    def __init__(self, answer: Answer) -> None:
-        self._answer = answer
-        self._listener = socket.create_server(("127.0.0.1", 0))
-        self.port: int = self._listener.getsockname()[1]
-        self.requests: list[Mapping[str, Any]] = []
-        self._open: list[socket.socket] = []
-        threading.Thread(target=self._accept, daemon=True).start()
-
-    def close(self) -> None:
-        """Ends the server and its connections."""
-        for connection in [self._listener, *self._open]:
-            with ignored(OSError):
-                connection.shutdown(socket.SHUT_RDWR)
-            connection.close()
-
-    def _accept(self) -> None:
-        with ignored(OSError):
-            while True:
-                connection, _ = self._listener.accept()
-                self._open.append(connection)
-                threading.Thread(target=self._serve, args=(connection,), daemon=True).start()
-
-    def _serve(self, connection: socket.socket) -> None:
-        with ignored(OSError, ValueError), connection, connection.makefile("rb") as lines:
-            for line in lines:
-                request = json.loads(line)
-                self.requests.append(request)
-                reply = self._answer(request)
-                if reply is None:
-                    connection.shutdown(socket.SHUT_RDWR)
-                    return
-                data = reply if isinstance(reply, bytes) else json.dumps(reply).encode() + b"\n"
-                connection.sendall(data)
-
-
-class Peeking:
-    """Answers lines as a program with `peek` and `status` does, by a cqlrun behind it.
-
-    It keeps the answers that were peeked at. Give it to a `Fake`.
-    """
-
-    def __init__(self, process: Process) -> None:
-        self._process = process
-        self._lock = threading.Lock()
-        self._closed: dict[str, int] = {}
-        self.waiting: dict[str, list[list[Any]]] = {}
-        self.taken: dict[str, int] = {}
-        self.fail: dict[str, str] = {}  # faults of requests, by op
-
-    def __call__(self, request: Mapping[str, Any]) -> Mapping[str, Any]:
-        with self._lock:
-            try:
-                return self._answer(request)
-            except Refused as refused:
-                return {"error": refused.fault}
-
-    def _answer(self, request: Mapping[str, Any]) -> Mapping[str, Any]:
-        op = request["op"]
-        if op in self.fail:
-            return {"error": self.fail[op]}
-        if op == "status":
-            queries = [
-                {"name": name, "base": -1, "upto": min(self._closed.values(), default=-1),
-                 "taken": self.taken[name], "waiting": len(rows)}
-                for name, rows in self.waiting.items()
-            ]
-            return {"ok": True, "streams": [], "queries": queries}
-        if op in ("peek", "take"):
-            name, limit = request["query"], request["limit"]
-            if name not in self.waiting:
-                return {"error": "E6 UnknownQuery"}
-            waiting = self.waiting[name]
-            while more := self._process.take(name):
-                waiting += more
-            rows = waiting[:limit]
-            if op == "take":
-                del waiting[:limit]
-                self.taken[name] += len(rows)
-            return {"ok": True, "rows": rows}
-        reply = self._process.ask(**request)
-        if op == "query":
-            self.waiting[request["name"]] = []
-            self.taken[request["name"]] = 0
-        elif op == "drop":
-            del self.waiting[request["query"]]
-        elif op == "heartbeat":
-            self._closed[request["stream"]] = request["at"]
-        return reply
 
 
 class RedisServer:
@@ -204,15 +110,6 @@ class RedisServer:
             connection.sendall(b"PING\r\n")
             return connection.recv(7) == b"+PONG\r\n"
         return False
-
-
-@contextmanager
-def ignored(*kinds: type[BaseException]) -> Iterator[None]:
-    """Ends a `with` quietly where it raises one of the kinds."""
-    try:
-        yield
-    except kinds:
-        pass
 
 
 def environment() -> dict[str, str]:

@@ -5,9 +5,10 @@ from __future__ import annotations
 import asyncio
 import threading
 from collections.abc import AsyncIterator, Coroutine, Mapping
+from contextlib import asynccontextmanager
 from typing import Any
 
-from support import PATIENCE, Case, Peeking
+from support import PATIENCE, Case
 
 from cqld import (
     Answers,
@@ -48,6 +49,30 @@ class Async(Case):
     def run_in(self, main: Coroutine[Any, Any, None]) -> None:
         asyncio.run(asyncio.wait_for(main, 2 * PATIENCE))
 
+    @asynccontextmanager
+    async def fed(self, count: int, port: int | None = None) -> AsyncIterator[AsyncClient]:
+        """Has a client that has appended so many rows to S, over which q is.
+
+        It is one of a real server, unless there is a port.
+        """
+        async with AsyncClient(port or self.server().port, timeout=PATIENCE) as it:
+            await it.stream("S", ["a"])
+            await it.query("q", ALL)
+            self.assertEqual(await it.append("S", ((n, n) for n in range(count))), count)
+            if count:
+                await it.heartbeat("S", count - 1)
+            yield it
+
+    async def worked(self, it: AsyncClient, instant: int) -> None:
+        """Waits until the workers have done all up to an instant."""
+        async with asyncio.timeout(PATIENCE):
+            while (await it.status()).queries["q"].upto < instant:
+                await asyncio.sleep(0.005)
+
+    async def taken(self, it: AsyncClient) -> int:
+        """Returns how many answers of q were taken."""
+        return (await it.status()).queries["q"].taken
+
     def test_every_call_is_answered(self) -> None:
         async def main() -> None:
             async with AsyncClient(self.server().port, timeout=PATIENCE) as it:
@@ -65,11 +90,11 @@ class Async(Case):
                 with self.assertRaises(Refused) as caught:
                     await it.take("q")
                 self.assertEqual(caught.exception.fault, "E6 UnknownQuery")
-                for call in (it.status(), it.peek("q")):
-                    try:
-                        await call
-                    except Refused as refused:
-                        self.assertIn(refused.code, ("N2", "E6"))
+                with self.assertRaises(Refused) as caught:
+                    await it.peek("q")
+                self.assertEqual(caught.exception.fault, "E6 UnknownQuery")
+                status = await it.status()
+                self.assertEqual((status.streams["S"].closed, dict(status.queries)), (2, {}))
             with self.assertRaises(Closed):
                 await it.drain()
 
@@ -77,9 +102,7 @@ class Async(Case):
 
     def test_requests_of_many_tasks_pipeline(self) -> None:
         async def main() -> None:
-            async with AsyncClient(self.server().port, timeout=PATIENCE) as it:
-                await it.stream("S", ["a"])
-                await it.query("q", ALL)
+            async with self.fed(0) as it:
                 asked = [it.append("S", [(n, n)]) for n in range(2_000)]
                 self.assertEqual(await asyncio.gather(*asked), [1] * 2_000)
                 await it.heartbeat("S", 1_999)
@@ -208,14 +231,11 @@ class Async(Case):
 
     def test_follow_yields_answers_and_beats(self) -> None:
         async def main() -> None:
-            server = self.server()
-            async with AsyncClient(server.port, timeout=PATIENCE) as it:
-                await it.stream("S", ["a"])
-                await it.query("q", ALL)
+            async with self.fed(0) as it:
                 found: list[Any] = []
 
                 async def write() -> None:
-                    async with AsyncClient(server.port, timeout=PATIENCE) as writer:
+                    async with AsyncClient(it.port, timeout=PATIENCE) as writer:
                         for instant in range(50):
                             await writer.append("S", [(instant, instant)])
                             await writer.heartbeat("S", instant)
@@ -237,27 +257,20 @@ class Async(Case):
         self.run_in(main())
 
     def test_follow_takes_what_was_handled(self) -> None:
-        """Over a program that has `peek` and `status`."""
-        engine = Peeking(self.process())
-        fake = self.fake(engine)
-
         async def main() -> None:
-            async with AsyncClient(fake.port, timeout=PATIENCE) as it:
-                await it.stream("S", ["a"])
-                await it.query("q", ALL)
-                await it.append("S", [(n, n) for n in range(10)])
-                await it.heartbeat("S", 9)
+            async with self.fed(10) as it:
+                await self.worked(it, 9)
                 follow = it.follow("q", limit=4)
                 self.assertEqual([(await anext(follow))[0] for _ in range(4)], [0, 1, 2, 3])
-                self.assertEqual(engine.taken["q"], 0)
+                self.assertEqual(await self.taken(it), 0)
                 await anext(follow)
-                self.assertEqual(engine.taken["q"], 4)
+                self.assertEqual(await self.taken(it), 4)
                 with self.assertRaises(KeyError):
                     async with it.follow("q") as answers:
                         async for row in answers:
                             if row[0] == 7:
                                 raise KeyError
-                self.assertEqual(engine.taken["q"], 7)
+                self.assertEqual(await self.taken(it), 7)
                 items: list[Any] = []
                 async for item in it.follow("q", 0.001, beat=0.02, deadline=PATIENCE):
                     items.append(item)
@@ -266,6 +279,7 @@ class Async(Case):
                 self.assertEqual(items, [[7, 7], [8, 8], [9, 9], Beat(9)])
                 await it.append("S", [(n, n) for n in range(10, 20)])
                 await it.heartbeat("S", 19)
+                await self.worked(it, 19)
                 follow = it.follow("q")
                 await anext(follow)
                 await it.take("q", 3)
@@ -278,13 +292,31 @@ class Async(Case):
 
         self.run_in(main())
 
+    def test_answers_wait_for_workers(self) -> None:
+        """Over a real server, and over stand-ins where work is never late or only a drain works."""
+        async def main(port: int) -> None:
+            async with self.fed(5_000, port) as it:
+                found = [row async for row in it.answers("q")]
+                self.assertEqual(found, [[n, n] for n in range(5_000)])
+                self.assertEqual(await self.taken(it), 5_000)
+                await it.append("S", [(5_000, 1)])
+                late = asyncio.create_task(it.heartbeat("S", 5_000))
+                last = [row async for row in it.answers("q", 5_000)]
+                await late
+                self.assertEqual(last, [[5_000, 1]])
+                await it.drop("q")
+                with self.assertRaises(Refused):
+                    await anext(it.answers("q", 1))
+
+        self.run_in(main(self.server().port))
+        for works, drains in ((True, 0), (False, 1)):
+            standin = self.standin(works)
+            self.run_in(main(standin.port))
+            self.assertEqual(min(standin.count("drain"), 1), drains)
+
     def test_follow_that_is_cancelled_loses_nothing(self) -> None:
         async def main() -> None:
-            async with AsyncClient(self.server().port, timeout=PATIENCE) as it:
-                await it.stream("S", ["a"])
-                await it.query("q", ALL)
-                await it.append("S", ((n, n) for n in range(500)))
-                await it.heartbeat("S", 499)
+            async with self.fed(500) as it:
                 follow = it.follow("q", 0.001, limit=7, deadline=PATIENCE)
                 found: list[Any] = []
                 wait = 0.0

@@ -111,21 +111,30 @@ class Calls(Case):
             with self.assertRaises(Closed):
                 it.drain()
 
-    def test_status_and_peek_are_answered_or_refused(self) -> None:
+    def test_status_and_peek_are_answered(self) -> None:
         for it in self.connections():
             it.stream("S", ["a"])
             it.query("q", ALL)
             it.append("S", [(0, 1)])
             it.heartbeat("S", 0)
-            try:
-                waiting = it.peek("q")
-            except Refused as refused:  # the programs have no peek yet
-                self.assertEqual(refused.code, "N2")
-                with self.assertRaises(Refused):
-                    it.status()
-                continue
-            self.assertIn(waiting, ([], [[0, 1]]))
+            self.assertIn(it.peek("q"), ([], [[0, 1]]))
             self.assertEqual(it.status().streams["S"].closed, 0)
+            it.drain()
+            wait_until(lambda: it.peek("q") == [[0, 1]])
+            query = it.status().queries["q"]
+            self.assertEqual(query, cqld.QueryStatus("q", -1, 0, 0, 1))
+            with self.assertRaises(Refused) as caught:
+                it.peek("none")
+            self.assertEqual(caught.exception.code, "E6")
+
+
+    def test_answers_of_no_query_are_refused(self) -> None:
+        for it in self.connections():
+            it.stream("S", ["a"])
+            for upto in (None, 7):
+                with self.assertRaises(Refused) as caught:
+                    list(it.answers("none", upto))
+                self.assertEqual(caught.exception.code, "E6")
 
 
 class Appends(Case):

@@ -43,7 +43,7 @@ class CutterTest(unittest.TestCase):
         program = find_program("cqlrun")
         for seed in range(SCRIPTS):
             draw = Random(seed)
-            lines = [compact_json(request) for request in Script(seed).requests]
+            lines = [compact_json(request) for request in Script(seed, has_looks=False).requests]
             replies = replies_of(lines)
             for cut in draw.sample(range(len(lines)), 3):
                 cutter = Cutter()

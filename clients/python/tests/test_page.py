@@ -14,17 +14,17 @@ import time
 import unittest
 from contextlib import redirect_stderr
 from pathlib import Path
-from typing import Any, Callable, Iterator
+from typing import Any, Callable, Iterator, Mapping
 
 HERE = Path(__file__).resolve().parent
 PACKAGE = HERE.parent
 sys.path[:0] = [str(PACKAGE), str(HERE)]
 
 from browser import Browser, program as browser_program  # noqa: E402
-from standin import LineServer, Standin, Told  # noqa: E402
+from standin import Fake, Standin  # noqa: E402
 from support import PATIENCE, environment  # noqa: E402
 
-from cqld import Client, Refused, Server, find_program, shell  # noqa: E402
+from cqld import Client, PortTaken, Server, shell  # noqa: E402
 from cqld.page.history import History  # noqa: E402
 
 MEAN = "Select Rstream(room, Count(*), Sum(degrees)) From Temp [Range 9] Group By room"
@@ -95,9 +95,9 @@ class Page:
         finally:
             connection.close()
 
-    def state(self) -> Told:
+    def state(self) -> dict[str, Any]:
         """Returns what the page knows."""
-        state: Told = json.loads(self.get("/state")[2])
+        state: dict[str, Any] = json.loads(self.get("/state")[2])
         return state
 
 
@@ -131,7 +131,7 @@ def feed(client: Client, begin: int, end: int) -> None:
 
 
 class LooksTest(unittest.TestCase):
-    """The page over a server that answers `status` and `peek`."""
+    """The page over a real server, and over servers that say what none would."""
 
     browser: Browser
 
@@ -153,35 +153,43 @@ class LooksTest(unittest.TestCase):
         return self.browser
 
     def test_page_shows_all_and_moves_on_and_reads_on_a_phone_and_in_the_dark(self) -> None:
-        with Standin(find_program("cqlrun")) as server, Client(server.port) as client:
-            declare(client)
-            feed(client, 0, 40)
-            with Page(server.port) as page:
-                browser = self.open(page, "mean")
-                browser.wait("document.body.dataset.rows === '120'")
-                browser.wait("document.querySelectorAll('#plan .operator').length === 3")
-                shown = browser.text()
-                for words in ("3 behind", "in front", "120 waiting", "looks only", "500000/3"):
-                    self.assertIn(words, shown)
-                first = browser.value("document.querySelector('#rows tr').innerText.split('\\t')")
-                self.assertEqual([cell.strip() for cell in first], ["", "39", "2", "10", "2,179"])
-                self.assertEqual(browser.value(LINES), 3)
-                self.assertEqual(server.requests.count("take"), 0)
-                self.assertEqual(browser.troubles, [])
+        for make in (Server, Standin):
+            with self.subTest(make.__name__), make() as server, Client(server.port) as client:
+                self.shows(server, client)
 
-                before = browser.value(LINE)
-                feed(client, 40, 50)  # the plot and the table move on
-                browser.wait("document.body.dataset.rows === '150'")
-                browser.wait("document.querySelector('#rows tr').innerText.includes('49')")
-                browser.wait(f"{LINE} !== {json.dumps(before)}")
-                self.assertEqual(len(client.take("mean", 100)), 100)  # someone else takes
-                browser.wait("document.body.innerText.includes('100 taken')")
-                browser.wait("document.querySelector('#figures').innerText.includes('50')")
-                self.assertEqual(browser.value("document.body.dataset.rows"), "150")
-                browser.value("document.querySelector('button[data-name=hot]').click()")
-                browser.wait("document.querySelector('#name').textContent === 'hot'")
-                self.assertEqual(browser.troubles, [])
-                self.reads(page, rows=150)  # the page remembers those that were taken
+    def shows(self, server: Server | Standin, client: Client) -> None:
+        """Looks at a page that is open while rows come and are taken."""
+        declare(client)
+        feed(client, 0, 40)
+        with Page(server.port) as page:
+            browser = self.open(page, "mean")
+            browser.wait("document.body.dataset.rows === '120'")
+            browser.wait("document.querySelectorAll('#plan .operator').length === 3")
+            shown = browser.text()
+            for words in ("3 behind", "in front", "120 waiting", "looks only", "500000/3"):
+                self.assertIn(words, shown)
+            first = browser.value("document.querySelector('#rows tr').innerText.split('\\t')")
+            self.assertEqual([cell.strip() for cell in first], ["", "39", "2", "10", "2,179"])
+            self.assertEqual(browser.value(LINES), 3)
+            taken = {it.name: it.taken for it in client.status().queries.values()}
+            self.assertEqual(taken, {"mean": 0, "hot": 0})
+            if isinstance(server, Standin):
+                self.assertEqual(server.count("take"), 0)
+            self.assertEqual(browser.troubles, [])
+
+            before = browser.value(LINE)
+            feed(client, 40, 50)  # the plot and the table move on
+            browser.wait("document.body.dataset.rows === '150'")
+            browser.wait("document.querySelector('#rows tr').innerText.includes('49')")
+            browser.wait(f"{LINE} !== {json.dumps(before)}")
+            self.assertEqual(len(client.take("mean", 100)), 100)  # someone else takes
+            browser.wait("document.body.innerText.includes('100 taken')")
+            browser.wait("document.querySelector('#figures').innerText.includes('50')")
+            self.assertEqual(browser.value("document.body.dataset.rows"), "150")
+            browser.value("document.querySelector('button[data-name=hot]').click()")
+            browser.wait("document.querySelector('#name').textContent === 'hot'")
+            self.assertEqual(browser.troubles, [])
+            self.reads(page, rows=150)  # the page remembers those that were taken
 
     def reads(self, page: Page, rows: int) -> None:
         """Opens the page on a phone and in the dark, and takes a picture of it."""
@@ -201,18 +209,18 @@ class LooksTest(unittest.TestCase):
         self.assertEqual(len(grounds), 2)
 
     def test_names_and_texts_are_shown_and_never_read_as_markup(self) -> None:
-        class Hostile(LineServer):
-            def answer(self, request: Told) -> Told:
-                if request["op"] == "status":
-                    return {"ok": True,
-                            "streams": [{"name": HOSTILE, "closed": 3, "rows": 1,
-                                         "columns": [HOSTILE]}],
-                            "queries": [{"name": HOSTILE, "base": -1, "taken": 0, "upto": 3,
-                                         "waiting": 1}]}
-                if request["op"] == "peek":
-                    return {"ok": True, "rows": [[3, None, 2 ** 62]]}
-                return {"ok": True, "operators": [[HOSTILE, "1/1"]]}
-        with Hostile() as server, Page(server.port) as page:
+        def answer(request: Mapping[str, Any]) -> Mapping[str, Any]:
+            if request["op"] == "status":
+                return {"ok": True,
+                        "streams": [{"name": HOSTILE, "closed": 3, "rows": 1,
+                                     "columns": [HOSTILE]}],
+                        "queries": [{"name": HOSTILE, "base": -1, "taken": 0, "upto": 3,
+                                     "waiting": 1}]}
+            if request["op"] == "peek":
+                return {"ok": True, "rows": [[3, None, 2 ** 62]]}
+            return {"ok": True, "operators": [[HOSTILE, "1/1"]]}
+
+        with Fake(answer) as server, Page(server.port) as page:
             browser = self.open(page)
             browser.wait("document.body.dataset.rows === '1'")
             browser.wait("document.querySelector('#plan .operator') !== null")
@@ -223,7 +231,7 @@ class LooksTest(unittest.TestCase):
             self.assertEqual(browser.troubles, [])
 
     def test_values_are_decoded_where_the_page_is_told_of_a_session(self) -> None:
-        with Standin(find_program("cqlrun")) as server, tempfile.TemporaryDirectory() as folder:
+        with Server() as server, tempfile.TemporaryDirectory() as folder:
             session, words = Path(folder, "session.cql"), Path(folder, "words")
             session.write_text(SESSION)
             told = ["--dictionary", str(words)]
@@ -249,7 +257,7 @@ class LooksTest(unittest.TestCase):
                 self.assertEqual(browser.troubles, [])
 
     def test_server_that_goes_away_and_comes_back_is_told(self) -> None:
-        first = Standin(find_program("cqlrun"))
+        first = Server()
         with first, Client(first.port) as client, Page(first.port) as page:
             declare(client)
             feed(client, 0, 40)
@@ -259,7 +267,7 @@ class LooksTest(unittest.TestCase):
             browser.wait("document.body.dataset.link === 'server away'")
             self.assertIn("The page tries again", browser.text())
             self.assertFalse(page.state()["connected"])
-            with Standin(find_program("cqlrun"), first.port) as second:
+            with wait(lambda: server_again(first.port)) as second:
                 browser.wait("document.body.dataset.link === 'live'")
                 browser.wait("document.body.innerText.includes('No stream is declared')")
                 with Client(second.port) as client:
@@ -268,7 +276,7 @@ class LooksTest(unittest.TestCase):
                     browser.wait("document.body.dataset.rows === '30'")
 
     def test_page_that_goes_away_and_comes_back_is_told(self) -> None:
-        with Standin(find_program("cqlrun")) as server, Client(server.port) as client:
+        with Server() as server, Client(server.port) as client:
             declare(client)
             feed(client, 0, 40)
             with Page(server.port) as page:
@@ -281,12 +289,13 @@ class LooksTest(unittest.TestCase):
                 browser.wait("document.body.dataset.rows === '120'")
 
     def test_server_without_peek_is_taken_from_only_where_allowed(self) -> None:
-        with Standin(find_program("cqlrun"), peeks=False) as server:
+        with Standin(timeout=PATIENCE) as server:
+            server.faults = {"peek": "N2 BadRequest", "status": "N2 BadRequest"}
             self.taken(server.port, looks=False)
 
     def test_page_over_the_real_server(self) -> None:
         with Server() as server:
-            self.taken(server.port, all(answers(server.port, op) for op in ("status", "peek")))
+            self.taken(server.port, looks=True)
 
     def taken(self, port: int, looks: bool) -> None:
         """Shows a query that the page may take from, beside one that it may not."""
@@ -318,7 +327,7 @@ class SiteTest(unittest.TestCase):
     """The page's server."""
 
     def test_replies_have_headers_events_are_pushed_and_only_this_machine_is_answered(self) -> None:
-        with Standin(find_program("cqlrun")) as server, Page(server.port) as page:
+        with Server() as server, Page(server.port) as page:
             wait(lambda: page.state()["connected"])
             for path in ("/", "/page.css", "/page.js", "/plot.js", "/plan.js", "/words.js",
                          "/icon.svg", "/state"):
@@ -367,14 +376,12 @@ class SiteTest(unittest.TestCase):
                 self.assertIn(told, errors.getvalue())
 
 
-def answers(port: int, op: str) -> bool:
-    """Returns whether a server knows a request."""
-    with Client(port) as client:
-        try:
-            client.ask(op, query="none", limit=1)
-        except Refused as refused:
-            return refused.code != "N2"
-        return True
+def server_again(port: int) -> Server | None:
+    """Starts a server on a port of before, or returns None while another program has it."""
+    try:
+        return Server(port)
+    except PortTaken:
+        return None
 
 
 def events(viewer: socket.socket) -> Iterator[tuple[str, Any]]:

@@ -94,7 +94,7 @@ class DriverTest(unittest.TestCase):
 
     def run_script(self, seed: int, parts: int, counts: Counter[str]) -> None:
         """Runs a random script over parts, and compares each take with what was foretold."""
-        script, draw = Script(seed), Random(seed)
+        script, draw = Script(seed, has_looks=False), Random(seed)
         keys = keys_of(draw, script)
         left_out: set[str] = set()
         with Parted(parts, keys) as engines:

@@ -5,24 +5,67 @@ import subprocess
 import unittest
 from collections.abc import Iterator
 from contextlib import contextmanager
+from pathlib import Path
 
 from cqld.programs import find_program
 
-from support import PATIENCE
+from support import PATIENCE, wait_until
 
 
-def said(program: str, *words: str) -> "subprocess.CompletedProcess[str]":
-    """Runs a program with these words and no input."""
+# Declares S(a), and a query that answers with each row once its instant has closed.
+SETUP = (
+    '{"op":"stream","name":"S","columns":["a"],"from":0}\n'
+    '{"op":"query","name":"q","text":"Select Rstream(a) From S [Now]"}\n'
+)
+
+DONE = '{"ok":true}\n'
+
+CALLS = 100_100  # more than a history of 100,000 calls has room for
+
+
+def said(
+    program: str, *words: str, lines: str = ""
+) -> "subprocess.CompletedProcess[str]":
+    """Runs a program with these words and this input."""
     command = [find_program(program), *words]
     return subprocess.run(
-        command, stdin=subprocess.DEVNULL, capture_output=True, text=True, timeout=PATIENCE
+        command, input=lines, capture_output=True, text=True, timeout=PATIENCE
     )
 
 
+def script(instants: int) -> str:
+    """Returns requests that append two rows at each instant, and take them."""
+    lines = [SETUP]
+    for at in range(instants):
+        lines.append(f'{{"op":"append","stream":"S","rows":[[{at},{at}],[{at},7]]}}\n')
+        lines.append(f'{{"op":"heartbeat","stream":"S","at":{at}}}\n')
+        lines.append('{"op":"drain"}\n{"op":"take","query":"q","limit":9}\n')
+    return "".join(lines)
+
+
+def replies(instants: int) -> str:
+    """Returns what these requests are answered."""
+    lines = [DONE * 2]
+    for at in range(instants):
+        rows = sorted([[at, 7], [at, at]])
+        shown = ",".join(f"[{instant},{value}]" for instant, value in rows)
+        lines.append(DONE * 3 + f'{{"ok":true,"rows":[{shown}]}}\n')
+    return "".join(lines)
+
+
 @contextmanager
-def listening(*words: str) -> Iterator[tuple["subprocess.Popen[str]", int]]:
-    """Yields a server of one client with these words, and its port."""
-    command = [find_program("cqld"), "--port=0", "--workers=1", "--clients=1", *words]
+def listening(
+    *words: str, clients: int = 1, files: int | None = None
+) -> Iterator[tuple["subprocess.Popen[str]", int]]:
+    """Yields a server of some clients with these words, and its port.
+
+    It may hold this many open files, if a number is given.
+    """
+    command = [find_program("cqld"), "--port=0", f"--clients={clients}", *words]
+    if not any(word.startswith("--workers") for word in words):
+        command.append("--workers=1")
+    if files is not None:
+        command = ["prlimit", f"--nofile={files}:{files}", *command]
     server = subprocess.Popen(
         command, stdout=subprocess.PIPE, stderr=subprocess.PIPE, text=True
     )
@@ -37,6 +80,17 @@ def listening(*words: str) -> Iterator[tuple["subprocess.Popen[str]", int]]:
 def connected(port: int) -> socket.socket:
     """Returns a connection to the server."""
     return socket.create_connection(("127.0.0.1", port), PATIENCE)
+
+
+def rest_of(connection: socket.socket) -> bytes:
+    """Returns what still comes from a server until it closes."""
+    parts = []
+    try:
+        while part := connection.recv(1 << 20):
+            parts.append(part)
+    except ConnectionResetError:
+        pass
+    return b"".join(parts)
 
 
 class Programs(unittest.TestCase):
@@ -62,6 +116,115 @@ class Programs(unittest.TestCase):
                 other.sendall(b'{"op":"drain"}\n')
                 self.assertEqual(other.recv(100), b'{"ok":true}\n')
             self.assertEqual(server.wait(PATIENCE), 0)
+
+    def test_a_client_that_takes_nothing_is_closed_and_the_next_one_is_served(self) -> None:
+        rows = ",".join("[0,1099511627775]" for _ in range(4096))
+        lines = [
+            SETUP,
+            f'{{"op":"append","stream":"S","rows":[{rows}]}}\n',
+            '{"op":"heartbeat","stream":"S","at":0}\n{"op":"drain"}\n',
+            '{"op":"peek","query":"q","limit":4096}\n' * 1_000,  # some 60 MB of replies
+        ]
+        with listening("--idle=1", "--serve=2") as (server, port):
+            with connected(port) as greedy:
+                greedy.sendall("".join(lines).encode())
+                with connected(port) as other:
+                    other.sendall(b'{"op":"drain"}\n')
+                    self.assertEqual(other.recv(100), DONE.encode())
+                self.assertLess(len(rest_of(greedy)), 50_000_000)
+            self.assertEqual(server.wait(PATIENCE), 0)
+
+    def test_a_slow_client_keeps_its_place_without_idle(self) -> None:
+        with listening("--serve=1") as (server, port):
+            with connected(port) as slow:
+                slow.settimeout(1.5)
+                with self.assertRaises(TimeoutError):
+                    slow.recv(1)
+                slow.settimeout(PATIENCE)
+                slow.sendall(b'{"op":"drain"}\n')
+                self.assertEqual(slow.recv(100), DONE.encode())
+            self.assertEqual(server.wait(PATIENCE), 0)
+
+    def test_a_failed_accept_is_told_while_others_are_served(self) -> None:
+        # files of a server of two clients: three of its own, the listener and one connection
+        with listening(clients=2, files=5) as (server, port):
+            with connected(port) as client, connected(port):
+                assert server.stderr is not None
+                self.assertEqual(server.stderr.readline(), "cqld: accept failed\n")
+                client.sendall(b'{"op":"drain"}\n')
+                self.assertEqual(client.recv(100), DONE.encode())
+                self.assertIsNone(server.poll())
+            self.assertEqual(server.wait(PATIENCE), 1)
+            self.assertEqual(server.stderr.read(), "")
+
+    def test_a_thread_that_cannot_be_started_ends_the_server(self) -> None:
+        # room for some twenty stacks of 8 MiB
+        limited = ("prlimit", "--as=200000000", "--stack=8388608")
+        command = [*limited, find_program("cqld"), "--port=0", "--workers=1", "--clients=64"]
+        ran = subprocess.run(
+            command, stdin=subprocess.DEVNULL, capture_output=True, text=True, timeout=PATIENCE
+        )
+        self.assertEqual((ran.returncode, ran.stderr), (3, "cqld: thread failed\n"))
+
+    def test_workers_and_clients_are_threads(self) -> None:
+        with listening("--workers=3", clients=2) as (server, _):
+            threads = Path(f"/proc/{server.pid}/task")
+            wait_until(lambda: len(list(threads.iterdir())) == 6)  # and the one that waits
+
+    def test_rows_of_a_turn_change_no_reply(self) -> None:
+        for rows in ("1", "7", "1024"):
+            for words in ((), ("--workers=2",)):
+                ran = said("cqlrun", f"--turn={rows}", *words, lines=script(20))
+                self.assertEqual((ran.returncode, ran.stderr), (0, ""))
+                self.assertEqual(ran.stdout, replies(20))
+
+    def test_rows_of_a_turn_out_of_range_are_a_wrong_command_line(self) -> None:
+        for rows in ("0", "1025", "x"):
+            ran = said("cqlrun", f"--turn={rows}", lines=script(1))
+            self.assertEqual((ran.returncode, ran.stdout), (2, ""))
+            self.assertIn("--turn", ran.stderr)
+
+    def test_a_pool_that_forgets_answers_as_one_thread_does(self) -> None:
+        for workers in ("1", "4"):
+            for values in ("0", "1", "100", "1000000"):
+                words = (f"--workers={workers}", f"--forget={values}")
+                ran = said("cqlrun", *words, lines=script(300))
+                self.assertEqual((ran.returncode, ran.stderr), (0, ""))
+                self.assertEqual(ran.stdout, replies(300))
+
+    def test_a_pool_that_forgets_also_forgets_when_it_is_asked(self) -> None:
+        lines = script(3) + '{"op":"forget"}\n' + '{"op":"status"}\n'
+        status = (
+            '{"ok":true,"queries":[{"base":-1,"name":"q","taken":6,"upto":2,"waiting":0}],'
+            '"streams":[{"closed":2,"columns":["a"],"name":"S","rows":6}]}\n'
+        )
+        for values in ("0", "1"):
+            ran = said("cqlrun", "--workers=2", f"--forget={values}", lines=lines)
+            self.assertEqual((ran.returncode, ran.stderr), (0, ""))
+            self.assertEqual(ran.stdout, replies(3) + DONE + status)
+
+    def test_a_pool_keeps_more_than_100000_calls(self) -> None:
+        lines = SETUP + '{"op":"append","stream":"S","rows":[]}\n' * CALLS
+        ran = said("cqlrun", "--workers=1", lines=lines)
+        self.assertEqual((ran.returncode, ran.stderr), (0, ""))
+        self.assertEqual(ran.stdout.count(DONE), CALLS + 2)
+
+    def test_a_server_that_never_forgets_keeps_more_than_100000_calls(self) -> None:
+        part = b'{"op":"append","stream":"S","rows":[]}\n' * 100
+        with listening("--forget=0", "--serve=1") as (server, port):
+            with connected(port) as client, client.makefile("rb") as replies:
+                client.sendall(SETUP.encode())
+                found = {replies.readline() for _ in range(2)}
+                for _ in range(CALLS // 100):
+                    client.sendall(part)
+                    found.update(replies.readline() for _ in range(100))
+                self.assertEqual(found, {DONE.encode()})
+            self.assertEqual(server.wait(PATIENCE), 0)
+
+    def test_forgetting_wants_a_pool(self) -> None:
+        ran = said("cqlrun", "--forget=1", lines=script(1))
+        self.assertEqual((ran.returncode, ran.stdout), (2, ""))
+        self.assertEqual(ran.stderr, "cqlrun: --forget wants --workers\n")
 
     def test_a_burst_of_requests_is_answered_in_order(self) -> None:
         requests = [

@@ -301,7 +301,7 @@ class Sessions(ShellCase):
         said = self.said()
         for part in ("symbol text, price decimal(2), amount int", "waits for rows",
                      "Trades: instants are seconds; it begins with its first rows",
-                     "a cqlrun of its own has no request for its status"):
+                     "query  base  complete up to  taken  waiting"):
             self.assertIn(part, said)
         self.assertEqual((shell.failed, len(shell.session.queries)), (0, 0))
 

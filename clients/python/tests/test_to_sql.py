@@ -60,7 +60,7 @@ class SqlTest(unittest.TestCase):
     def test_sqlite_gives_the_answers_of_the_engine_in_their_order(self) -> None:
         queries = answers = 0
         for seed in range(SCRIPTS):
-            script = Script(seed)
+            script = Script(seed, has_looks=False)
             texts = [request["text"] for request in script.requests if request["op"] == "query"]
             wanted = engine_answers(script)
             for text, running, rows in zip(texts, script.queries, wanted):

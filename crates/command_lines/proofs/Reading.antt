@@ -10,19 +10,13 @@ use Rattle.clap.specs.declared.builder.command.Command.{Command}
 use Rattle.clap.specs.declared.builder.command.Command.TheViews.{out-Command}
 use Rattle.clap.specs.declared.parser.matches.ArgMatches.{ArgMatches}
 use Rattle.clap.proofs.WalkLemmas.{one_text-rows}
-use Rattle.command_lines.specs.CommandLine.{between, number_in, number_or, refusals, run_text, AsksBoth, IsPlain}
-use Rattle.command_lines.specs.Faults.{ChoosesBoth, RefusesRun}
+use Rattle.command_lines.specs.CommandLine.{between, number_in, number_or, refusals, run_text, AsksBoth, ForgetsAlone, IsPlain}
+use Rattle.command_lines.specs.Faults.{ChoosesBoth, ChoosesToForget, RefusesChoice, RefusesRun}
 use Rattle.command_lines.specs.declared.run.RunOptions.{RunOptions}
 use Rattle.command_lines.specs.declared.fault.WordsFault.{WordsFault}
 use Rattle.command_lines.specs.declared.fault.WordsFault.TheVariants as words_fault
 use Rattle.command_lines.proofs.Numbers.{IsNumber, number_is}
 use Rattle.command_lines.proofs.Passing.{FitsElse, chained_passes, distinct, fits, has_distinct, ids_of, ordinary}
-
-pub three : {A : Type 0} (P : A → Type 0) (a b c : A) → P a → P b → P c → All P (a ∷ b ∷ c ∷ [])
-three P a b c x y z zero d lt = x
-three P a b c x y z (suc zero) d lt = y
-three P a b c x y z (suc (suc zero)) d lt = z
-three P a b c x y z (suc (suc (suc k))) d lt = absurd (omega arith)
 
 pub five : {A : Type 0} (P : A → Type 0) (a b c e f : A) → P a → P b → P c → P e → P f → All P (a ∷ b ∷ c ∷ e ∷ f ∷ [])
 five P a b c e f x y z w v zero d lt = x
@@ -31,6 +25,17 @@ five P a b c e f x y z w v (suc (suc zero)) d lt = z
 five P a b c e f x y z w v (suc (suc (suc zero))) d lt = w
 five P a b c e f x y z w v (suc (suc (suc (suc zero)))) d lt = v
 five P a b c e f x y z w v (suc (suc (suc (suc (suc k))))) d lt = absurd (omega arith)
+
+pub four : {A : Type 0} (P : A → Type 0) (a b c e : A) → P a → P b → P c → P e → All P (a ∷ b ∷ c ∷ e ∷ [])
+four P a b c e x y z w zero d lt = x
+four P a b c e x y z w (suc zero) d lt = y
+four P a b c e x y z w (suc (suc zero)) d lt = z
+four P a b c e x y z w (suc (suc (suc zero))) d lt = w
+four P a b c e x y z w (suc (suc (suc (suc k)))) d lt = absurd (omega arith)
+
+pub six : {A : Type 0} (P : A → Type 0) (a b c e f h : A) → P a → P b → P c → P e → P f → P h → All P (a ∷ b ∷ c ∷ e ∷ f ∷ h ∷ [])
+six P a b c e f h x y z w v u zero d lt = x
+six P a b c e f h x y z w v u (suc k) d lt = five P b c e f h y z w v u k d (omega arith)
 
 -- a command of these options, and what a parse of it found
 pub record Parsed (cmd : Command) (m : ArgMatches) (app : App) (words : List Text) (xs : List Arg) : Type 0 where
@@ -106,6 +111,7 @@ pub record IsAsked (words : List Text) (o : RunOptions) : Type 0 where
   pub plain : (o.is_plain ≡ true) ↔ IsPlain words
   pub turn : (o.turn ≡ number_or 256 (run_text (codes "turn") words)) × (1 ≤ o.turn) × (o.turn ≤ 1024)
   pub workers : IsNumber 1 64 (run_text (codes "workers") words) o.workers
+  pub forget : IsNumber 0 (2 ^ 40) (run_text (codes "forget") words) o.forget
 
 none_of : (o : Option (List ℕ)) (r : Option ℕ) → r ≡ option_map number_in o → (r ≡ None) ↔ (o ≡ None)
 none_of None r e = (λ i. refl, λ i. e)
@@ -118,16 +124,30 @@ both_alike words o is =
       λ b. (is.plain.1 b.0, λ absent. b.1 (none.0 absent)),
     )
 
-abbrev pub Takes : RunOptions → Result RunOptions WordsFault → Type 0
-Takes o r = MatchResult r (λ x. (x ≡ o) × (¬ ChoosesBoth o)) (λ f. (f ≡ words_fault.PlainWithWorkers) × ChoosesBoth o)
+forget_alike : (words : List Text) (o : RunOptions) → IsAsked words o → ChoosesToForget o ↔ ForgetsAlone words
+forget_alike words o is =
+    let none = none_of (run_text (codes "workers") words) o.workers is.workers.said in
+    let kept = none_of (run_text (codes "forget") words) o.forget is.forget.said in (
+      λ b. ((λ absent. b.0 (kept.1 absent)), none.0 b.1),
+      λ b. ((λ absent. b.0 (kept.0 absent)), none.1 b.1),
+    )
 
-pub if_asked : (words : List Text) (o : RunOptions) (r : Result RunOptions WordsFault) → IsAsked words o → Takes o r → IfOk r (λ x. (refusals words ≡ []) × (¬ AsksBoth words))
-if_asked words o (Ok x) is t = (is.right, λ b. t.1 ((both_alike words o is).1 b))
+abbrev pub Takes : RunOptions → Result RunOptions WordsFault → Type 0
+Takes o r = MatchResult r (λ x. (x ≡ o) × (¬ ChoosesBoth o) × (¬ ChoosesToForget o)) (λ f. RefusesChoice o f)
+
+pub if_asked : (words : List Text) (o : RunOptions) (r : Result RunOptions WordsFault) → IsAsked words o → Takes o r
+    → IfOk r (λ x. (refusals words ≡ []) × (¬ AsksBoth words) × (¬ ForgetsAlone words))
+if_asked words o (Ok x) is t = (is.right, (λ b. t.1 ((both_alike words o is).1 b)), (λ b. t.2 ((forget_alike words o is).1 b)))
 if_asked words o (Err f) is t = tt
+
+refused_so : (words : List Text) (o : RunOptions) (f : WordsFault) → IsAsked words o → RefusesChoice o f → RefusesRun words f
+refused_so words o (words_fault.Words e) is t = absurd t
+refused_so words o words_fault.PlainWithWorkers is t = (is.right, (both_alike words o is).0 t)
+refused_so words o words_fault.ForgetWithoutWorkers is t = (is.right, (forget_alike words o is).0 t)
 
 pub if_refused : (words : List Text) (o : RunOptions) (r : Result RunOptions WordsFault) → IsAsked words o → Takes o r → IfErr r (RefusesRun words)
 if_refused words o (Ok x) is t = tt
-if_refused words o (Err f) is t = subst (RefusesRun words) (sym t.0) (is.right, (both_alike words o is).0 t.1)
+if_refused words o (Err f) is t = refused_so words o f is t
 
 pub if_taken : (words : List Text) (o : RunOptions) (r : Result RunOptions WordsFault) (P : RunOptions → Type 0) → P o → Takes o r → IfOk r P
 if_taken words o (Ok x) P p t = subst P (sym t.0) p

@@ -1,5 +1,5 @@
 -- The command lines, as clap's own definition of a parse sees them.
-use Rattle.std.specs.Prelude.{◌≡◌, ◌≢◌, ℕ, pos, List, Option, Some, None, codes, false, true}
+use Rattle.std.specs.Prelude.{◌≡◌, ◌≢◌, ◌^◌, ℕ, pos, List, Option, Some, None, codes, false, true}
 use Rattle.std.specs.Str.Parse.{digits_value, without_leading_plus}
 use Rattle.clap.specs.Simple.{on_top}
 use Rattle.clap.specs.Words.{App, Rule, Text, Kinds, new_app, new_rule, with_rule, fault_of}
@@ -37,23 +37,29 @@ between least most = Signed (pos least) (pos most)
 abbrev pub versioned : List ℕ → App
 versioned name = on_top (λ s. record s { has_version = true }) (new_app name)
 
--- `cqlrun [--plain] [--turn R] [--workers N]`
+-- a number of values after which a hub forgets
+abbrev pub values : ValueParser
+values = between 0 (2 ^ 40)
+
+-- `cqlrun [--plain] [--turn R] [--workers N] [--forget V]`
 abbrev pub cqlrun : App
-cqlrun = with_rule (with_rule (with_rule (versioned (codes "cqlrun")) plain)
-    (option (codes "turn") (between 1 1024))) (option (codes "workers") (between 1 64))
+cqlrun = with_rule (with_rule (with_rule (with_rule (versioned (codes "cqlrun")) plain)
+    (option (codes "turn") (between 1 1024))) (option (codes "workers") (between 1 64)))
+    (option (codes "forget") values)
 
 -- an option that has to be there
 abbrev pub wanted : Rule → Rule
 wanted rule = record rule { required = true }
 
--- `cqld --port P --workers N --clients C [--serve K] [--idle S]`
+-- `cqld --port P --workers N --clients C [--serve K] [--idle S] [--forget V]`
 abbrev pub cqld : App
-cqld = with_rule (with_rule (with_rule
+cqld = with_rule (with_rule (with_rule (with_rule
     (with_rule (with_rule (versioned (codes "cqld"))
     (wanted (option (codes "port") (between 0 65535))))
     (wanted (option (codes "workers") (between 1 64))))
     (wanted (option (codes "clients") (between 1 64))))
-    (option (codes "serve") (between 0 1000000))) (option (codes "idle") (between 1 86400))
+    (option (codes "serve") (between 0 1000000))) (option (codes "idle") (between 1 86400)))
+    (option (codes "forget") values)
 
 -- why the words of `cqlrun` are refused, the program's
 -- own name first; nothing where they ask for a run
@@ -80,6 +86,11 @@ IsPlain words = run_text (codes "plain") words ≡ Some (codes "true")
 -- and for threads beside it
 abbrev pub AsksBoth : List Text → Type 0
 AsksBoth words = IsPlain words × (run_text (codes "workers") words ≢ None)
+
+-- the words ask to forget, and for no threads
+abbrev pub ForgetsAlone : List Text → Type 0
+ForgetsAlone words = (run_text (codes "forget") words ≢ None)
+    × (run_text (codes "workers") words ≡ None)
 
 -- the number that a text says, in decimal digits
 abbrev pub number_in : Text → ℕ

@@ -131,3 +131,24 @@ idle_for_long : serve_refusals
     ∷ [])) ≡ ValueValidation ∷ []
 unfolding serve_refusals clap_on_literals
 idle_for_long = refl
+
+forgetful : (serve_refusals (asked (codes "--port=0" ∷ codes "--workers=1" ∷ codes "--clients=1"
+    ∷ codes "--forget=1099511627776" ∷ [])) ≡ [])
+    × (number_or 8388608 (serve_text (codes "forget")
+    (asked (codes "--port=0" ∷ codes "--workers=1" ∷ codes "--clients=1"
+    ∷ codes "--forget=0" ∷ []))) ≡ 0)
+    × (number_or 8388608 (serve_text (codes "forget")
+    (asked (codes "--port=0" ∷ codes "--workers=1" ∷ codes "--clients=1" ∷ []))) ≡ 8388608)
+unfolding serve_refusals serve_text clap_on_literals
+forgetful = (refl, refl, refl)
+
+too_much_kept : serve_refusals (asked (codes "--port=0" ∷ codes "--workers=1" ∷ codes "--clients=1"
+    ∷ codes "--forget=1099511627777" ∷ [])) ≡ ValueValidation ∷ []
+unfolding serve_refusals clap_on_literals
+too_much_kept = refl
+
+run_forgets : (refusals (said (codes "--workers=1" ∷ codes "--forget=16" ∷ [])) ≡ [])
+    × (run_text (codes "forget") (said (codes "--workers=1" ∷ codes "--forget=16" ∷ []))
+    ≡ Some (codes "16"))
+unfolding refusals run_text clap_on_literals
+run_forgets = (refl, refl)

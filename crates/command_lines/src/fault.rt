@@ -12,6 +12,9 @@ pub enum WordsFault {
     /// Says that the words ask for the plain engine, and also for threads to run its turns. It has
     /// none.
     PlainWithWorkers,
+    /// Says that the words ask to forget by itself, and for no threads. Only their hub has a
+    /// history to forget.
+    ForgetWithoutWorkers,
 }
 
 impl From<AllocError> for WordsFault {

@@ -1,8 +1,9 @@
 //! Makes options that take a number.
-ghost use Rattle.command_lines.specs.CommandLine.{IsNumberArg, option, wanted};
+ghost use Rattle.std.specs.Prelude.{codes};
+ghost use Rattle.command_lines.specs.CommandLine.{IsNumberArg, option, values, wanted};
 
-use clap::Arg;
 use clap::builder::ValueParser;
+use clap::{Arg, value_parser};
 use std::alloc::Global;
 
 /// Makes the option `--NAME VALUE`, whose value is what the parser takes.
@@ -38,4 +39,17 @@ pub(crate) fn wanted_number<'a>(
         .value_parser(parser)
         .help(help)
         .required(true)
+}
+
+/// Makes the option `--forget V`.
+pub(crate) fn forget<'a>(alloc: Global) -> Arg<'a>
+    ensures { IsNumberArg (option (codes "forget") values) (codes "forget") values result }
+{
+    number(
+        alloc,
+        "forget",
+        "V",
+        value_parser!(i64).range(0..=1_099_511_627_776),
+        "Forget after so many values of 8 bytes, 0 to 2^40; 0 only if asked",
+    )
 }

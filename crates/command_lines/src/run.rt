@@ -1,12 +1,13 @@
 //! Reads the command line of `cqlrun`.
-ghost use Rattle.std.specs.Prelude.{◌≡◌, ◌≤◌, ◌↔◌, [], IfOk, IfErr, IfSome, IsTrue, codes, map};
-ghost use Rattle.std.specs.Prelude.{MatchResult, option_map};
-ghost use Rattle.command_lines.specs.CommandLine.{AsksBoth, IsPlain, number_in, number_or};
-ghost use Rattle.command_lines.specs.CommandLine.{refusals, run_text};
-ghost use Rattle.command_lines.specs.Faults.{ChoosesBoth, RefusesRun};
+ghost use Rattle.std.specs.Prelude.{◌≡◌, ◌≤◌, ◌↔◌, ◌^◌, [], IfOk, IfErr, IfSome, IsTrue, codes};
+ghost use Rattle.std.specs.Prelude.{MatchResult, map, option_map};
+ghost use Rattle.command_lines.specs.CommandLine.{AsksBoth, ForgetsAlone, IsPlain, number_in};
+ghost use Rattle.command_lines.specs.CommandLine.{number_or, refusals, run_text};
+ghost use Rattle.command_lines.specs.Faults.{ChoosesBoth, ChoosesToForget, RefusesChoice};
+ghost use Rattle.command_lines.specs.Faults.{RefusesRun};
 
 use crate::fault::WordsFault;
-use crate::number::number;
+use crate::number::{forget, number};
 use crate::version::VERSION;
 use clap::{Arg, ArgAction, Command, value_parser};
 use std::alloc::Global;
@@ -25,25 +26,32 @@ pub struct RunOptions {
     /// Counts the threads that are to run a drain's turns, 1 to 64. If the words do not say, only
     /// the caller's thread runs them.
     pub workers: Option<u32>,
+    /// Says after how many values in its history the hub of these threads forgets by itself, at
+    /// most 2^40. A value has 8 bytes. At 0, or if the words do not say, it forgets only if a
+    /// request asks.
+    pub forget: Option<u64>,
 }
 
 /// Reads the words of `cqlrun`. The first of them is the program's own name.
 ///
 /// # Errors
 /// `Words` for a request for help or for the version, a wrong command line, or out of memory. A
-/// turn or workers that are no number, or out of range, are a wrong command line.
-/// `PlainWithWorkers` if the words ask for both.
+/// number that is none, or out of range, is a wrong command line. `PlainWithWorkers` if the words
+/// ask for both. `ForgetWithoutWorkers` if they ask to forget, and for no workers.
 pub fn run_options<'a, S: AsStr>(alloc: Global, words: &'a [S]) -> Result<RunOptions, WordsFault>
     ensures asked { IfOk result (λ o. (refusals (map S.text words.entry.now) ≡ [])
-        × (¬ AsksBoth (map S.text words.entry.now))) }
+        × (¬ AsksBoth (map S.text words.entry.now))
+        × (¬ ForgetsAlone (map S.text words.entry.now))) }
     ensures refused { IfErr result (RefusesRun (map S.text words.entry.now)) }
     ensures plain { IfOk result (λ o. IsTrue o.is_plain ↔ IsPlain (map S.text words.entry.now)) }
     ensures turn { IfOk result (λ o.
         o.turn ≡ number_or 256 (run_text (codes "turn") (map S.text words.entry.now))) }
     ensures workers { IfOk result (λ o. o.workers
         ≡ option_map number_in (run_text (codes "workers") (map S.text words.entry.now))) }
+    ensures forget { IfOk result (λ o. o.forget
+        ≡ option_map number_in (run_text (codes "forget") (map S.text words.entry.now))) }
     ensures range { IfOk result (λ o. (1 ≤ o.turn) × (o.turn ≤ 1024)
-        × IfSome o.workers (λ n. (1 ≤ n) × (n ≤ 64))) }
+        × IfSome o.workers (λ n. (1 ≤ n) × (n ≤ 64)) × IfSome o.forget (λ v. v ≤ 2 ^ 40)) }
 {
     let plain = Arg::new(alloc, "plain")
         .long("plain")
@@ -67,27 +75,34 @@ pub fn run_options<'a, S: AsStr>(alloc: Global, words: &'a [S]) -> Result<RunOpt
         .version(VERSION)
         .arg(plain)?
         .arg(turn)?
-        .arg(workers)?;
+        .arg(workers)?
+        .arg(forget(alloc))?;
     match command.try_get_matches_from(words) {
         Ok(matches) => {
             let options = RunOptions {
                 is_plain: matches.get_one("plain").unwrap_or(false),
                 turn: matches.get_one("turn").unwrap_or(TURN),
                 workers: matches.get_one("workers"),
+                forget: matches.get_one("forget"),
             };
-            refuse_both(options)
+            refuse_some(options)
         }
         Err(error) => Err(WordsFault::Words(error)),
     }
 }
 
-// Returns the options, unless they ask for the plain engine and for threads.
-fn refuse_both(options: RunOptions) -> Result<RunOptions, WordsFault>
-    ensures { MatchResult result (λ o. (o ≡ options) × (¬ ChoosesBoth options))
-        (λ fault. (fault ≡ WordsFault.PlainWithWorkers) × ChoosesBoth options) }
+// Returns the options, unless they ask for the plain engine and for threads, or to forget without
+// threads.
+fn refuse_some(options: RunOptions) -> Result<RunOptions, WordsFault>
+    ensures { MatchResult result
+        (λ o. (o ≡ options) × (¬ ChoosesBoth options) × (¬ ChoosesToForget options))
+        (λ fault. RefusesChoice options fault) }
 {
     if options.is_plain && options.workers.is_some() {
         return Err(WordsFault::PlainWithWorkers);
+    }
+    if options.forget.is_some() && options.workers.is_none() {
+        return Err(WordsFault::ForgetWithoutWorkers);
     }
     Ok(options)
 }

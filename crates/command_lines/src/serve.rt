@@ -1,14 +1,17 @@
 //! Reads the command line of `cqld`.
-ghost use Rattle.std.specs.Prelude.{◌≡◌, ◌≤◌, IfOk, IfSome, codes, map, option_map};
+ghost use Rattle.std.specs.Prelude.{◌≡◌, ◌≤◌, ◌^◌, IfOk, IfSome, codes, map, option_map};
 ghost use Rattle.clap.specs.Words.{FailsBy};
 ghost use Rattle.command_lines.specs.CommandLine.{IsNumberArg, between, number_in, number_or};
 ghost use Rattle.command_lines.specs.CommandLine.{option, serve_refusals, serve_text, wanted};
 
-use crate::number::{number, wanted_number};
+use crate::number::{forget, number, wanted_number};
 use crate::version::VERSION;
 use clap::{Arg, Command, Error, value_parser};
 use std::alloc::Global;
 use std::convert::AsStr;
+
+/// Says after how many values the server forgets, if the command line does not say: 64 MB.
+const FORGET: u64 = 8_388_608;
 
 /// Holds what the words of `cqld` ask for.
 #[derive(Clone, Copy, Debug, PartialEq, Eq)]
@@ -25,6 +28,9 @@ pub struct ServeOptions {
     /// Says after how many seconds a silent connection is closed, 1 to 86,400. If the words do not
     /// say, it never is.
     pub idle: Option<u32>,
+    /// Says after how many values in its history the server forgets by itself, at most 2^40. A
+    /// value has 8 bytes. At 0 it forgets only if a request asks.
+    pub forget: u64,
 }
 
 /// Reads the words of `cqld`. The first of them is the program's own name. Port, workers and
@@ -45,9 +51,11 @@ pub fn serve_options<'a, S: AsStr>(alloc: Global, words: &'a [S]) -> Result<Serv
         o.serve ≡ option_map number_in (serve_text (codes "serve") (map S.text words.entry.now))) }
     ensures idle { IfOk result (λ o.
         o.idle ≡ option_map number_in (serve_text (codes "idle") (map S.text words.entry.now))) }
+    ensures forget { IfOk result (λ o. o.forget
+        ≡ number_or 8388608 (serve_text (codes "forget") (map S.text words.entry.now))) }
     ensures range { IfOk result (λ o. (o.port ≤ 65535) × (1 ≤ o.workers) × (o.workers ≤ 64)
         × (1 ≤ o.clients) × (o.clients ≤ 64) × IfSome o.serve (λ k. k ≤ 1000000)
-        × IfSome o.idle (λ s. (1 ≤ s) × (s ≤ 86400))) }
+        × IfSome o.idle (λ s. (1 ≤ s) × (s ≤ 86400)) × (o.forget ≤ 2 ^ 40)) }
 {
     let workers = threads(
         alloc,
@@ -67,7 +75,8 @@ pub fn serve_options<'a, S: AsStr>(alloc: Global, words: &'a [S]) -> Result<Serv
         .arg(workers)?
         .arg(clients)?
         .arg(connections(alloc))?
-        .arg(idle(alloc))?;
+        .arg(idle(alloc))?
+        .arg(forget(alloc))?;
     match command.try_get_matches_from(words) {
         // what is required is there, so no default is taken
         Ok(matches) => Ok(ServeOptions {
@@ -76,6 +85,7 @@ pub fn serve_options<'a, S: AsStr>(alloc: Global, words: &'a [S]) -> Result<Serv
             clients: matches.get_one("clients").unwrap_or(1),
             serve: matches.get_one("serve"),
             idle: matches.get_one("idle"),
+            forget: matches.get_one("forget").unwrap_or(FORGET),
         }),
         Err(error) => Err(error),
     }

@@ -1,11 +1,12 @@
 -- Keys in order, each once.
-use Rattle.std.proofs.Common.{◌≡◌, ℕ, zero, suc, ◌<◌, List, [], ◌∷◌, ◌++◌, length, fold, slice_index_or, ◌⊎◌, ⊎_elim, inl, inr, refl, sym, ap, ap₂, ◌∙◌, subst, arith}
+use Rattle.std.proofs.Common.{◌≡◌, ◌==◌, ℕ, zero, suc, ◌<◌, Bool, true, false, List, [], ◌∷◌, ◌++◌, length, fold, slice_index_or, ◌⊎◌, ⊎_elim, inl, inr, refl, sym, ap, ap₂, ◌∙◌, subst, arith}
 use Rattle.std.specs.declared.cmp.Ordering.{Ordering}
 use Rattle.std.specs.declared.cmp.Ordering.TheVariants.{Less, Equal, Greater}
 use Rattle.std.specs.Ordering.{match_ordering, ordering_reverse}
 use Rattle.std.specs.BTreeSet.{insert_key}
 use Rattle.std.specs.List.{Contains, dedup}
 use Rattle.std.specs.List.Sorted.{IsPermutation, IsSorted, IsStrictlySortedBy}
+use Rattle.std.proofs.lemmas.Bool.{eq-eqb, ne_eqb}
 use Rattle.std.proofs.lemmas.Cmp.{tied_itself}
 use Rattle.std.proofs.lemmas.List.Elements.{All-contains, All-from_recursion}
 use Rattle.std.proofs.lemmas.List.Kept.{Contains-dedup, Contains-from_dedup, IsStrictlySortedBy-dedup}
@@ -139,3 +140,35 @@ in_set-more ks k = more [] ks
     more : (acc js : List Held) → fold (insert_key held_cmp) acc (js ++ k ∷ []) ≡ insert_key held_cmp (fold (insert_key held_cmp) acc js) k
     more acc [] = refl
     more acc (j ∷ js) = more (insert_key held_cmp acc j) js
+
+-- a list of which the set is empty has no keys
+none-in_set : (ks : List Held) → in_set ks ≡ [] → ks ≡ []
+none-in_set [] h = refl
+none-in_set (k ∷ ks) h =
+    absurd (omega (arith, (subst (λ s. Contains s k) h (has-fold k [] (k ∷ ks) (in-head k k ks refl))).1))
+
+apart : true ≡ false → ⊥
+apart e = absurd (cc)
+
+filled : (k : Held) (ks : List Held) → k ∷ ks ≡ [] → ⊥
+filled k ks e = absurd (cc)
+
+-- two lists, of which the first is empty, have an empty set where the second is empty too
+pub are_none : (ts qs : List Held) (n m : ℕ) (a b : Bool) (set : List Held) → length ts ≡ n → length qs ≡ m → a ≡ (n == 0) → a ≡ true → b ≡ (m == 0) → in_set (ts ++ qs) ≡ set
+    → (b ≡ true → set ≡ []) × (set ≡ [] → b ≡ true)
+are_none [] [] n m a b set len more first is second same = (λ e. sym same, λ e. second ∙ eq-eqb m 0 (sym more))
+are_none [] (q ∷ qs) n m a b set len more first is second same =
+    let none : b ≡ false = second ∙ ne_eqb m 0 (λ e. omega (arith, e, more)) in
+    (λ e. absurd (apart (sym e ∙ none)), λ e. absurd (filled q qs (none-in_set (q ∷ qs) (same ∙ e))))
+are_none (t ∷ ts) qs n m a b set len more first is second same =
+    let none : a ≡ false = first ∙ ne_eqb n 0 (λ e. omega (arith, e, len)) in
+    absurd (apart (sym is ∙ none))
+
+-- and where the first is not, it has a key
+pub are_some : (ts qs : List Held) (n : ℕ) (a : Bool) (set : List Held) → length ts ≡ n → a ≡ (n == 0) → a ≡ false → in_set (ts ++ qs) ≡ set
+    → (false ≡ true → set ≡ []) × (set ≡ [] → false ≡ true)
+are_some [] qs n a set len first is same =
+    let all : a ≡ true = first ∙ eq-eqb n 0 (sym len) in
+    absurd (apart (sym all ∙ is))
+are_some (t ∷ ts) qs n a set len first is same =
+    (λ e. absurd (apart (sym e)), λ e. absurd (filled t (ts ++ qs) (none-in_set (t ∷ ts ++ qs) (same ∙ e))))

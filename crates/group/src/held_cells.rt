@@ -1,6 +1,6 @@
 //! The groups by key, in as little room as their keys need.
 
-ghost use Rattle.std.specs.Prelude.{◌≡◌, ◌≤◌, ◌<◌, ◌^◌, [], length, fold, IfOk, OnOk};
+ghost use Rattle.std.specs.Prelude.{◌≡◌, ◌≤◌, ◌<◌, ◌^◌, ◌↔◌, [], length, fold, IfOk, IsTrue, OnOk};
 ghost use Rattle.std.specs.BTreeMap.{is_at};
 ghost use Rattle.std.specs.BTreeSet.{insert_key};
 ghost use Rattle.std.specs.Map.{remove_entry};
@@ -19,6 +19,20 @@ use column::Batch;
 use op_queue::SignedRows;
 use std::alloc::{AllocError, Global};
 use values::{ListItem, MAX_COLUMNS, Row};
+
+/// Is the expression with `keyed` bound to the groups, whatever the room of their keys.
+macro_rules! with_keyed {
+    ($held:expr, $keyed:ident => $body:expr) => {
+        match $held {
+            HeldCells::One($keyed) => $body,
+            HeldCells::Two($keyed) => $body,
+            HeldCells::Four($keyed) => $body,
+            HeldCells::Eight($keyed) => $body,
+            HeldCells::Sixteen($keyed) => $body,
+            HeldCells::Widest($keyed) => $body,
+        }
+    };
+}
 
 /// Keeps the groups, with room in each key for at most 1, 2, 4, 8, 16 or `MAX_COLUMNS` values.
 #[derive(Drop)]
@@ -69,14 +83,7 @@ impl HeldCells {
     fn widened(&mut self, alloc: Global) -> Result<Keyed<MAX_COLUMNS>, AllocError>
         ensures { IfOk result (λ wider. wider ≡ kept_in self.old) }
     {
-        match self {
-            HeldCells::One(keyed) => keyed.widened(alloc),
-            HeldCells::Two(keyed) => keyed.widened(alloc),
-            HeldCells::Four(keyed) => keyed.widened(alloc),
-            HeldCells::Eight(keyed) => keyed.widened(alloc),
-            HeldCells::Sixteen(keyed) => keyed.widened(alloc),
-            HeldCells::Widest(keyed) => keyed.widened(alloc),
-        }
+        with_keyed!(self, keyed => keyed.widened(alloc))
     }
 
     /// Makes room for keys of `width` values. The groups stay, and so do the touched ones. It takes
@@ -95,6 +102,13 @@ impl HeldCells {
         Ok(())
     }
 
+    /// Returns whether no group was touched since the last tick.
+    pub(crate) fn is_untouched(&self) -> bool
+        ensures { IsTrue result ↔ (touched_in self.now ≡ []) }
+    {
+        with_keyed!(self, keyed => keyed.is_untouched())
+    }
+
     /// Touches the group with this key.
     pub(crate) fn touch(&mut self, alloc: Global, key: &Row) -> Result<(), AllocError>
         ensures cells { OnOk result (cells_in self.new ≡ cells_in self.old) }
@@ -102,14 +116,7 @@ impl HeldCells {
             (touched_in self.new ≡ insert_key held_cmp (touched_in self.old) key.now) }
     {
         self.make_room(alloc, key.len())?;
-        match self {
-            HeldCells::One(keyed) => keyed.touch(key),
-            HeldCells::Two(keyed) => keyed.touch(key),
-            HeldCells::Four(keyed) => keyed.touch(key),
-            HeldCells::Eight(keyed) => keyed.touch(key),
-            HeldCells::Sixteen(keyed) => keyed.touch(key),
-            HeldCells::Widest(keyed) => keyed.touch(key),
-        }
+        with_keyed!(self, keyed => keyed.touch(key))
     }
 
     /// Lets rows enter and leave, one after the other, and touches their groups.
@@ -126,14 +133,7 @@ impl HeldCells {
             (state_with group.now (kept_in self.new))) }
     {
         self.make_room(alloc, group.by().len())?;
-        match self {
-            HeldCells::One(keyed) => keyed.take_each(alloc, group, batch),
-            HeldCells::Two(keyed) => keyed.take_each(alloc, group, batch),
-            HeldCells::Four(keyed) => keyed.take_each(alloc, group, batch),
-            HeldCells::Eight(keyed) => keyed.take_each(alloc, group, batch),
-            HeldCells::Sixteen(keyed) => keyed.take_each(alloc, group, batch),
-            HeldCells::Widest(keyed) => keyed.take_each(alloc, group, batch),
-        }
+        with_keyed!(self, keyed => keyed.take_each(alloc, group, batch))
     }
 
     /// Takes in a batch of rows of one group, and touches it. The group may be one that is not kept
@@ -154,14 +154,7 @@ impl HeldCells {
         ensures range { OnOk result (AllInRange items.now batch.now) }
     {
         self.make_room(alloc, key.len())?;
-        match self {
-            HeldCells::One(keyed) => keyed.take_batch_in(alloc, items, key, batch),
-            HeldCells::Two(keyed) => keyed.take_batch_in(alloc, items, key, batch),
-            HeldCells::Four(keyed) => keyed.take_batch_in(alloc, items, key, batch),
-            HeldCells::Eight(keyed) => keyed.take_batch_in(alloc, items, key, batch),
-            HeldCells::Sixteen(keyed) => keyed.take_batch_in(alloc, items, key, batch),
-            HeldCells::Widest(keyed) => keyed.take_batch_in(alloc, items, key, batch),
-        }
+        with_keyed!(self, keyed => keyed.take_batch_in(alloc, items, key, batch))
     }
 
     /// Sets the row that a group shows. The group may be one that is not kept yet.
@@ -176,28 +169,14 @@ impl HeldCells {
             ≡ shown_in count key.now row.now (cells_in self.old)) }
     {
         self.make_room(alloc, key.len())?;
-        match self {
-            HeldCells::One(keyed) => keyed.show_in(alloc, count, key, row),
-            HeldCells::Two(keyed) => keyed.show_in(alloc, count, key, row),
-            HeldCells::Four(keyed) => keyed.show_in(alloc, count, key, row),
-            HeldCells::Eight(keyed) => keyed.show_in(alloc, count, key, row),
-            HeldCells::Sixteen(keyed) => keyed.show_in(alloc, count, key, row),
-            HeldCells::Widest(keyed) => keyed.show_in(alloc, count, key, row),
-        }
+        with_keyed!(self, keyed => keyed.show_in(alloc, count, key, row))
     }
 
     /// Drops the group with this key. Takes no memory.
     pub(crate) fn remove(&mut self, key: &Row)
         ensures { cells_in self.new ≡ remove_entry (is_at (held_cmp key.now)) (cells_in self.old) }
     {
-        match self {
-            HeldCells::One(keyed) => keyed.remove(key),
-            HeldCells::Two(keyed) => keyed.remove(key),
-            HeldCells::Four(keyed) => keyed.remove(key),
-            HeldCells::Eight(keyed) => keyed.remove(key),
-            HeldCells::Sixteen(keyed) => keyed.remove(key),
-            HeldCells::Widest(keyed) => keyed.remove(key),
-        }
+        with_keyed!(self, keyed => keyed.remove(key))
     }
 
     /// Takes a tick of the touched groups, in the order of their keys. Each emits what it has to
@@ -217,14 +196,7 @@ impl HeldCells {
             (outputs group.now
             (near_at group.now.items (cells_in self.old) (touched_in self.old)))) }
     {
-        match self {
-            HeldCells::One(keyed) => keyed.swap_touched(alloc, group, rows),
-            HeldCells::Two(keyed) => keyed.swap_touched(alloc, group, rows),
-            HeldCells::Four(keyed) => keyed.swap_touched(alloc, group, rows),
-            HeldCells::Eight(keyed) => keyed.swap_touched(alloc, group, rows),
-            HeldCells::Sixteen(keyed) => keyed.swap_touched(alloc, group, rows),
-            HeldCells::Widest(keyed) => keyed.swap_touched(alloc, group, rows),
-        }
+        with_keyed!(self, keyed => keyed.swap_touched(alloc, group, rows))
     }
 
     /// Marks every group as not touched.
@@ -232,14 +204,7 @@ impl HeldCells {
         ensures cells { cells_in self.new ≡ cells_in self.old }
         ensures touched { touched_in self.new ≡ [] }
     {
-        match self {
-            HeldCells::One(keyed) => keyed.forget_touched(alloc),
-            HeldCells::Two(keyed) => keyed.forget_touched(alloc),
-            HeldCells::Four(keyed) => keyed.forget_touched(alloc),
-            HeldCells::Eight(keyed) => keyed.forget_touched(alloc),
-            HeldCells::Sixteen(keyed) => keyed.forget_touched(alloc),
-            HeldCells::Widest(keyed) => keyed.forget_touched(alloc),
-        }
+        with_keyed!(self, keyed => keyed.forget_touched(alloc))
     }
 
     /// Returns what the touched groups have to show, in the order of their keys.
@@ -248,13 +213,6 @@ impl HeldCells {
         ensures { IfOk result (λ near. near
             ≡ near_at items.now (cells_in self.now) (touched_in self.now)) }
     {
-        match self {
-            HeldCells::One(keyed) => keyed.excerpts(alloc, items),
-            HeldCells::Two(keyed) => keyed.excerpts(alloc, items),
-            HeldCells::Four(keyed) => keyed.excerpts(alloc, items),
-            HeldCells::Eight(keyed) => keyed.excerpts(alloc, items),
-            HeldCells::Sixteen(keyed) => keyed.excerpts(alloc, items),
-            HeldCells::Widest(keyed) => keyed.excerpts(alloc, items),
-        }
+        with_keyed!(self, keyed => keyed.excerpts(alloc, items))
     }
 }

@@ -1,7 +1,7 @@
 //! Groups by keys of few values, and the keys that rows touched.
 
-ghost use Rattle.std.specs.Prelude.{◌≡◌, ◌≤◌, ◌<◌, ◌+◌, ◌^◌, ◌++◌, [], cond, length, fold};
-ghost use Rattle.std.specs.Prelude.{IfOk, IsTrue, OnOk};
+ghost use Rattle.std.specs.Prelude.{◌≡◌, ◌≤◌, ◌<◌, ◌+◌, ◌^◌, ◌++◌, ◌↔◌, [], cond, false, length};
+ghost use Rattle.std.specs.Prelude.{fold, IfOk, IsTrue, OnOk};
 ghost use Rattle.std.specs.BTreeMap.{is_at};
 ghost use Rattle.std.specs.BTreeSet.{insert_key};
 ghost use Rattle.std.specs.Map.{remove_entry};
@@ -17,7 +17,6 @@ ghost use Rattle.group.specs.Turns.{near_at, outputs, shown_after};
 ghost use Rattle.op_queue.specs.Flat.{with_signed};
 ghost use Rattle.group.specs.Runs.{changes_at, put_out, state_with, swapped};
 ghost use Rattle.group.specs.Touched.{TouchedMore};
-ghost use Rattle.std.specs.Prelude.{false};
 
 use crate::cells::{Cell, Figure};
 use crate::key::Key;
@@ -79,6 +78,16 @@ impl<const N: usize> Keyed<N> {
             quiet: Vec::new(alloc),
             are_quiet: true,
         }
+    }
+
+    /// Returns whether no group was touched since the last tick.
+    pub(crate) fn is_untouched(&self) -> bool
+        ensures { IsTrue result ↔ (self.now.touched ≡ []) }
+    {
+        if !self.touched.is_empty() {
+            return false;
+        }
+        self.quiet.is_empty()
     }
 
     /// Touches the group with this key.

@@ -125,7 +125,7 @@ impl Near {
     }
 
     /// Returns the number of groups.
-    fn len(&self) -> usize
+    pub fn len(&self) -> usize
         ensures { result ≡ length self.now }
     {
         self.groups.rows.len()

@@ -1,7 +1,8 @@
 -- The commands and replies of the code as those of the machine.
 use Rattle.std.specs.Prelude.{string_bytes}
 use Rattle.plan.specs.Chart.{given_by}
-use Rattle.reference.specs.CallViews.{handed_of, texts_of}
+use Rattle.std.specs.Arc.{arc_value}
+use Rattle.reference.specs.CallViews.{texts_of}
 use Rattle.reference.specs.Commands as machine
 use Rattle.reference.specs.Replies as replies
 use Rattle.histories.specs.declared.command.CommandKind.{CommandKind}
@@ -22,4 +23,4 @@ command_of (command.Drop query) = machine.Drop query
 abbrev pub reply_of : ReplyKind → replies.Reply
 reply_of (reply.Number number) = replies.Number number
 reply_of reply.Done = replies.Done
-reply_of (reply.Rows rows) = replies.Rows (handed_of rows.items)
+reply_of (reply.Rows rows) = replies.Rows (arc_value rows)

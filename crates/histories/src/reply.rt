@@ -1,11 +1,12 @@
 //! Keeps the reply to an accepted command.
-ghost use Rattle.std.specs.Prelude.{◌≡◌, ◌↔◌, ◌≤◌, IsTrue, [], length, vec_capacity};
-ghost use Rattle.reference.specs.CallViews.{handed_of};
-ghost use Rattle.reference.specs.Replies.{count_in};
+ghost use Rattle.std.specs.Prelude.{◌≡◌, ◌↔◌, IfOk, IsTrue};
 ghost use Rattle.histories.specs.Views.{reply_of};
 
+use answer_rows::AnswerRows;
+use std::alloc::AllocError;
 use std::marker::Model;
-use values::{Row, copy_row};
+use std::ops::Deref;
+use std::sync::Arc;
 
 /// Says what the reply to an accepted command is.
 #[derive(Drop)]
@@ -14,8 +15,9 @@ pub enum ReplyKind {
     Number(u64),
     /// Says that it was done.
     Done,
-    /// Holds the answers that were taken, each with its instant.
-    Rows(Vec<(i64, Row)>),
+    /// Holds the answers that were taken, each with its instant. They have several owners, so they
+    /// are kept once for the history and all its receipts.
+    Rows(Arc<AnswerRows>),
 }
 
 /// Holds the reply to an accepted command. Contracts see it as the machine's reply.
@@ -56,16 +58,20 @@ impl Reply {
         self.kind
     }
 
-    /// Copies the reply, in room that was reserved for its answers. Takes no memory.
-    pub fn copy_into(&self, room: Vec<(i64, Row)>) -> Reply
-        requires empty { room.items ≡ [] }
-        requires fits { count_in self.now ≤ vec_capacity room }
-        ensures { result ≡ self.now }
+    /// Returns the same reply once more; its answers are shared. Takes no memory.
+    ///
+    /// # Errors
+    /// `AllocError` when no more owners can be counted; nothing has changed.
+    pub fn share(&self) -> Result<Reply, AllocError>
+        ensures { IfOk result (λ reply. reply ≡ self.now) }
     {
         match &self.kind {
-            ReplyKind::Number(number) => Reply::new(ReplyKind::Number(*number)),
-            ReplyKind::Done => Reply::new(ReplyKind::Done),
-            ReplyKind::Rows(rows) => Reply::new(ReplyKind::Rows(copy_answers(rows, room))),
+            ReplyKind::Number(number) => Ok(Reply::new(ReplyKind::Number(*number))),
+            ReplyKind::Done => Ok(Reply::new(ReplyKind::Done)),
+            ReplyKind::Rows(rows) => {
+                let rows = Arc::try_clone(rows)?;
+                Ok(Reply::new(ReplyKind::Rows(rows)))
+            }
         }
     }
 
@@ -76,25 +82,10 @@ impl Reply {
         match (&self.kind, &other.kind) {
             (ReplyKind::Number(number), ReplyKind::Number(other)) => number == other,
             (ReplyKind::Done, ReplyKind::Done) => true,
-            (ReplyKind::Rows(rows), ReplyKind::Rows(others)) => same_answers(rows, others),
+            (ReplyKind::Rows(rows), ReplyKind::Rows(others)) => {
+                rows.deref().is_same(others.deref())
+            }
             _ => false,
         }
     }
-}
-
-fn copy_answers(rows: &[(i64, Row)], mut room: Vec<(i64, Row)>) -> Vec<(i64, Row)>
-    requires empty { room.items ≡ [] }
-    requires fits { length rows.now ≤ vec_capacity room }
-    ensures { handed_of result.items ≡ handed_of rows.now }
-{
-    for (at, row) in rows {
-        room.push_reserved((*at, copy_row(row)));
-    }
-    room
-}
-
-fn same_answers(rows: &[(i64, Row)], others: &[(i64, Row)]) -> bool
-    ensures { IsTrue result ↔ (handed_of rows.now ≡ handed_of others.now) }
-{
-    rows == others
 }

@@ -1,11 +1,11 @@
 -- What the engine's clauses say of a call that was accepted.
-use Rattle.std.proofs.Common.{◌≡◌, ◌∙◌, ◌≤◌, ℕ, ℤ, List, Option, Ok, length, take, refl, sym, ap, arith}
+use Rattle.std.proofs.Common.{◌≡◌, ◌∙◌, ℕ, ℤ, List, Option, Ok, length, take, refl, sym, ap, arith, subst}
 use Rattle.std.proofs.lemmas.List.{length-take-le, length-map}
 use Rattle.std.specs.Prelude.{⊤, slice_get}
 use Rattle.values.specs.Row.{Row}
 use Rattle.reference.proofs.CommandSteps.{append_is_step, declare_is_step, drop_is_step, heartbeat_is_step, register_is_step}
-use Rattle.reference.specs.Commands.{Command, Declare, Register, Append, Heartbeat, Take, Drop, after}
-use Rattle.reference.specs.Replies.{Reply, Number, Done, Rows, count_in}
+use Rattle.reference.specs.Commands.{Declare, Register, Append, Heartbeat, Take, Drop, after}
+use Rattle.reference.specs.Replies.{Reply, Number, Done, Rows}
 use Rattle.reference.specs.Steps.{AreNext}
 use Rattle.reference.specs.World.{Does, append_step, declare_step, drop_step, handed, heartbeat_step, register_step}
 use Rattle.stream_store.specs.Closing.{QueuesGain}
@@ -54,31 +54,7 @@ module _ (old new : PlainEngine) where
     call = takes;
   }
 
--- HOW MANY ANSWERS a reply to a command has at most
-abbrev pub most_of : PlainEngine → Command → ℕ
-most_of e (Declare name columns start) = 0
-most_of e (Register name text chart) = 0
-most_of e (Append s rows) = 0
-most_of e (Heartbeat s at) = 0
-most_of e (Take n limit) = count_of e n limit
-most_of e (Drop n) = 0
-
-pub answers_few : (e : PlainEngine) (c : Command) (r : Reply) (new : PlainEngine) → Answered e c r new → count_in r ≤ most_of e c
-answers_few e (Declare name columns start) (Number k) new h = omega arith
-answers_few e (Declare name columns start) Done new h = absurd h.step.gives
-answers_few e (Declare name columns start) (Rows rows) new h = absurd h.step.gives
-answers_few e (Register name text chart) (Number k) new h = omega arith
-answers_few e (Register name text chart) Done new h = absurd h.step.gives
-answers_few e (Register name text chart) (Rows rows) new h = absurd h.step.gives
-answers_few e (Append s more) (Number k) new h = absurd h.step.gives
-answers_few e (Append s more) Done new h = omega arith
-answers_few e (Append s more) (Rows rows) new h = absurd h.step.gives
-answers_few e (Heartbeat s at) (Number k) new h = absurd h.step.gives
-answers_few e (Heartbeat s at) Done new h = omega arith
-answers_few e (Heartbeat s at) (Rows rows) new h = absurd h.step.gives
-answers_few e (Take n limit) (Number k) new h = absurd h.step.gives
-answers_few e (Take n limit) Done new h = absurd h.step.gives
-answers_few e (Take n limit) (Rows rows) new h = omega (arith, handed_many e new n limit rows h.call.1)
-answers_few e (Drop n) (Number k) new h = absurd h.step.gives
-answers_few e (Drop n) Done new h = omega arith
-answers_few e (Drop n) (Rows rows) new h = absurd h.step.gives
+  -- a take answers what a peek showed before it
+  pub taken_shown : (n : ℕ) (limit : ℤ) (rows : List (ℤ × Row)) (r : Reply) → r ≡ Rows rows → Takes (λ rs. rs) old n limit (Ok rows) new → AreNext old.machine n limit rows
+      → Answered old (Take n limit) r new
+  taken_shown n limit rows r is takes next = subst (λ x. Answered old (Take n limit) x new) (sym is) (take_done n limit rows takes next)

@@ -1,8 +1,9 @@
 -- What a caller of the hub knows, from what the method under the lock ensures.
-use Rattle.std.proofs.Common.{◌≡◌, ℕ, Result, Ok, Err, IfOk, IfErr, subst}
+use Rattle.std.proofs.Common.{◌≡◌, ◌∙◌, ℕ, ℤ, Bool, true, false, List, Option, Some, None, Result, Ok, Err, IfOk, IfErr, ap, inl, inr, refl, subst, sym}
+use Rattle.reference.specs.Machine.{Machine}
 use Rattle.reference.specs.Commands.{Command}
 use Rattle.histories.specs.Histories.{Told}
-use Rattle.hub.specs.Steps.{Accepted, Declined, PlainLocked, HasEnded, Lends, Rests, Spurned, Took, Withholds}
+use Rattle.hub.specs.Steps.{Accepted, AcceptedNamed, Declined, DeclinedNamed, ForgetsAfter, ForgetsWhenDue, IsReplayed, PlainLocked, HasEnded, Lends, Rests, SeesPeek, Settles, Spurned, SpurnedNamed, Took, TookNamed, Withholds, engine_at}
 use Rattle.hub.specs.Seats.{PlainSeat}
 use Rattle.reference.specs.declared.fault.Fault.{Fault}
 use Rattle.turn.specs.declared.turns.Turn.{Turn}
@@ -44,3 +45,53 @@ withheld f F old new rows h = (old, new, h.1)
 
 pub withheld_or : (f : Fault) (old new : PlainLocked) (rows : ℕ) → Withholds old rows f new → (old : PlainLocked) × (new : PlainLocked) × Withholds old rows f new
 withheld_or f old new rows h = (old, new, h)
+
+-- what a peek showed
+pub peeked : (l : PlainLocked) (query : ℕ) (given limit : ℤ) (r : Result (List (ℤ × List (Option ℤ))) Fault) → given ≡ limit → SeesPeek (λ rows. rows) l query given r → (x : PlainLocked) × SeesPeek (λ rows. rows) x query limit r
+peeked l query given limit r is h = (l, subst (λ z. SeesPeek (λ rows. rows) l query z r) is h)
+
+-- whether it forgot
+pub forgot_or_not : (r : Result Bool Fault) (f b : Bool) (old new : PlainLocked) (values : ℕ) → r ≡ Ok f → f ≡ b → ForgetsWhenDue old values r new → (x : PlainLocked) × (x' : PlainLocked) × ForgetsWhenDue x values (Ok b) x'
+forgot_or_not r f b old new values is test h = (old, new, subst (λ (z : Result Bool Fault). ForgetsWhenDue old values z new) (is ∙ ap (λ (z : Bool). Ok z) test) h)
+
+-- OF A CALL THAT NAMES a stream or a query
+module _ (number_of : Machine → List ℕ → Option ℕ) (name : List ℕ) (c : ℕ → Command) (seat seat' : PlainSeat) where
+  pub took_named : {A : Type 0} (view : A → Told) (P : A → Type 0) (r : Result A Fault) (old new : PlainLocked) → IfOk r (λ x. P x × AcceptedNamed number_of name c old seat (view x) new seat')
+      → IfOk r (λ x. P x × TookNamed number_of name c seat (view x) seat')
+  took_named view P (Ok a) old new h = (h.0, (old, new, h.1))
+  took_named view P (Err f) old new h = tt
+
+  pub spurned_named : {A : Type 0} (r : Result A Fault) (unknown : Fault) (old new : PlainLocked) → IfErr r (λ f. DeclinedNamed number_of name unknown c old seat f new seat')
+      → IfErr r (λ f. SpurnedNamed number_of name unknown c seat f seat')
+  spurned_named (Ok a) unknown old new h = tt
+  spurned_named (Err f) unknown old new h = (old, new, h)
+
+  pub accepted_named : {A : Type 0} (view : A → Told) (P : A → Type 0) (r : Result A Fault) (old new : PlainLocked) (n : ℕ) (found : Option ℕ) → found ≡ number_of (engine_at old).machine name → found ≡ Some n
+      → IfOk r (λ x. P x × Accepted old seat (c n) (view x) new seat') → IfOk r (λ x. P x × AcceptedNamed number_of name c old seat (view x) new seat')
+  accepted_named view P (Ok a) old new n found is some h = (h.0, (n, sym is ∙ some, h.1))
+  accepted_named view P (Err f) old new n found is some h = tt
+
+  pub declined_named : {A : Type 0} (r : Result A Fault) (unknown : Fault) (old new : PlainLocked) (n : ℕ) (found : Option ℕ) → found ≡ number_of (engine_at old).machine name → found ≡ Some n
+      → IfErr r (λ f. Declined old seat (c n) f new seat') → IfErr r (λ f. DeclinedNamed number_of name unknown c old seat f new seat')
+  declined_named (Ok a) unknown old new n found is some h = tt
+  declined_named (Err f) unknown old new n found is some h = inl (n, sym is ∙ some, h)
+
+pub unnamed : (number_of : Machine → List ℕ → Option ℕ) (name : List ℕ) (c : ℕ → Command) (seat : PlainSeat) (unknown : Fault) (l : PlainLocked) (found : Option ℕ) → IsReplayed l → found ≡ number_of (engine_at l).machine name → found ≡ None
+    → DeclinedNamed number_of name unknown c l seat unknown l seat
+unnamed number_of name c seat unknown l found legal is none = inr (legal, sym is ∙ none, refl, refl, refl)
+
+-- A SEAT THAT SETTLED, and a hub that may have forgotten
+pub settled_alone : (seat seat' : PlainSeat) (agrees : Bool) (values : ℕ) → ((old : PlainLocked) × (settled : PlainLocked) × (new : PlainLocked) × Settles old seat agrees settled seat' × ForgetsAfter settled agrees values new)
+    → (old : PlainLocked) × (new : PlainLocked) × Settles old seat agrees new seat'
+settled_alone seat seat' agrees values h = (h.0, h.1, h.3)
+
+pub settles_and_forgets : (old settled noted new : PlainLocked) (seat seat' : PlainSeat) (agrees : Bool) (values : ℕ) (forgot : Result Bool Fault) → agrees ≡ true → Settles old seat agrees settled seat' → noted ≡ settled → ForgetsWhenDue noted values forgot new
+    → (x : PlainLocked) × Settles old seat true x seat' × ForgetsAfter x true values new
+settles_and_forgets old settled noted new seat seat' agrees values forgot is s same h = (
+  settled,
+  subst (λ (b : Bool). Settles old seat b settled seat') is s,
+  (forgot, subst (λ (l : PlainLocked). ForgetsWhenDue l values forgot new) same h),
+)
+
+pub settles_alone : (old new : PlainLocked) (seat seat' : PlainSeat) (agrees : Bool) (values : ℕ) → agrees ≡ false → Settles old seat agrees new seat' → (x : PlainLocked) × Settles old seat false x seat' × ForgetsAfter x false values new
+settles_alone old new seat seat' agrees values is s = (new, subst (λ (b : Bool). Settles old seat b new seat') is s, refl)

@@ -12,5 +12,7 @@ mod KeepingLemmas
 mod OpeningLemmas
 mod AcceptingLemmas
 mod KnownLemmas
+mod ReadyLemmas
 pub mod SendLemmas
+pub mod SizeLemmas
 pub mod WithheldLemmas

@@ -50,6 +50,7 @@ use Rattle.group.specs.contracts.lists.ValueLists as value_lists
 use Rattle.group.specs.contracts.lists.FigureLists as figure_lists
 use Rattle.group.specs.contracts.lists.ShownLists as shown_lists
 use Rattle.group.specs.contracts.turn.Near as touched
+use Rattle.to_stream.specs.contracts.Near as lists
 use Rattle.to_stream.specs.contracts.ToStream as to_stream
 use Rattle.operators.specs.contracts.inboxes.Inbox as inbox
 use Rattle.operators.specs.contracts.states.State as state
@@ -79,6 +80,7 @@ use Rattle.histories.specs.contracts.command.Command as command
 use Rattle.histories.specs.contracts.reply.Reply as reply
 use Rattle.hub.specs.contracts.ledger.Account as account
 use Rattle.hub.specs.contracts.ledger.Ledger as ledger
+use Rattle.hub.specs.contracts.measure.Measure as measure
 use Rattle.hub.specs.contracts.locked.Locked as locked
 use Rattle.hub.specs.contracts.locked.Locked.TheInside as locked_inside
 use Rattle.hub.specs.contracts.hub.Hub as hub
@@ -240,11 +242,17 @@ shown_lists_send = search (sendable, crosses, value_lists_send) depth 30
 pub touched_send : IsSend touched.the_row
 touched_send = search (sendable, crosses, value_lists_send, figure_lists_send, shown_lists_send) depth 40
 
+pub lists_send : IsSend lists.the_row
+lists_send = search (sendable, crosses, delta_send, row_list_send) depth 30
+
+lists_sync : IsSync lists.the_row
+lists_sync = search (sendable, crosses) depth 40 fits 100000
+
 pub near_send : IsSend near.the_row
-near_send = search (sendable, crosses, row_list_send, row_table_send, sliding_send, fallen_rows_send, matches_send, touched_send) depth 40 fits 100000
+near_send = search (sendable, crosses, lists_send, row_table_send, sliding_send, fallen_rows_send, matches_send, touched_send) depth 40 fits 100000
 
 pub near_sync : IsSync near.the_row
-near_sync = search (sendable, crosses) depth 40 fits 100000
+near_sync = search (sendable, crosses, lists_sync) depth 40 fits 100000
 
 pub shared_near_send : IsSend shared_near.the_row
 shared_near_send = search (sendable, crosses, near_send, near_sync) depth 20 fits 100000
@@ -293,7 +301,7 @@ plan_sync : IsSync plan.the_row
 plan_sync = declared_sync plan.the_type (search (sendable, crosses, plan_node_sync) depth 12 fits 100000, (search (sendable, crosses) depth 20 fits 100000, (search (sendable, crosses) depth 20 fits 100000, (search (sendable, crosses) depth 20 fits 100000, (resolved_sync, tt)))))
 
 pub registration_send : IsSend registration.the_row
-registration_send = declared_send registration.the_type (search (sendable, crosses, maps.crosses) depth 20 fits 100000, (Arc-send _ plan_send plan_sync, (search (sendable, crosses, slope_send) depth 12 fits 100000, (search (sendable, crosses) depth 20 fits 100000, (search sendable depth 12, (search sendable depth 12, (answers_send, (search sendable depth 12, (search sendable depth 12, tt)))))))))
+registration_send = declared_send registration.the_type (search (sendable, crosses, maps.crosses) depth 20 fits 100000, (Arc-send _ plan_send plan_sync, (search (sendable, crosses, slope_send) depth 12 fits 100000, (search (sendable, crosses) depth 20 fits 100000, (search sendable depth 12, (search sendable depth 12, (search (sendable, crosses) depth 12, (search sendable depth 12, (search sendable depth 12, (search sendable depth 12, tt))))))))))
 
 pub remains_send : IsSend remains.the_row
 remains_send = search (sendable, running_send, answers_send) depth 20
@@ -326,7 +334,7 @@ pub engine_send : IsSend engine.the_row
 engine_send = view_send engine_inside.the_row _ _ engine.the_view _ (declared_send engine_inside.the_type (engine_state_send, tt))
 
 pub opening_send : IsSend opening.the_row
-opening_send = declared_send opening.the_type (search (sendable, crosses, stored_send) depth 12, (search (sendable, crosses, registration_send) depth 12, tt))
+opening_send = declared_send opening.the_type (search (sendable, crosses, stored_send) depth 12, (search (sendable, crosses, registration_send) depth 12, (search (sendable, crosses, answers_send) depth 12, tt)))
 
 pub account_send : IsSend account.the_row
 account_send = search (sendable, crosses) depth 20
@@ -334,8 +342,11 @@ account_send = search (sendable, crosses) depth 20
 pub ledger_send : IsSend ledger.the_row
 ledger_send = search (sendable, crosses, account_send) depth 20
 
+measure_send : IsSend measure.the_row
+measure_send = search (sendable, crosses) depth 20
+
 pub locked_send : IsSend locked.the_row
-locked_send = view_send locked_inside.the_row _ _ locked.the_view _ (declared_send locked_inside.the_type (search (sendable, crosses) depth 20, (engine_send, (opening_send, (search sendable depth 12, (search (sendable, crosses, entry_send) depth 12, (search sendable depth 12, (search sendable depth 12, (ledger_send, (search sendable depth 12, tt))))))))))
+locked_send = view_send locked_inside.the_row _ _ locked.the_view _ (declared_send locked_inside.the_type (search (sendable, crosses) depth 20, (engine_send, (opening_send, (search sendable depth 12, (search (sendable, crosses, entry_send) depth 12, (search sendable depth 12, (search sendable depth 12, (ledger_send, (search sendable depth 12, (measure_send, (search sendable depth 12, tt))))))))))))
 
 pub hub_sync : IsSync hub.the_row
 hub_sync = search (sendable, crosses, locked_send) depth 20 fits 100000

@@ -1,5 +1,5 @@
 -- What an accepted command makes of an engine, and why one is refused.
-use Rattle.std.specs.Prelude.{◌≡◌, ⊤, Option, None, Some, [], Ok, slice_get}
+use Rattle.std.specs.Prelude.{◌≡◌, ⊤, Option, None, Some, Ok, slice_get}
 use Rattle.reference.specs.Commands.{Command, Declare, Register, Append, Heartbeat, Take, Drop}
 use Rattle.reference.specs.Commands.{first_fault}
 use Rattle.reference.specs.Replies.{Reply, Rows}
@@ -8,10 +8,14 @@ use Rattle.reference.specs.declared.fault.Fault.{Fault}
 use Rattle.reference.specs.declared.fault.Fault.TheVariants as fault
 use Rattle.stream_store.specs.Closing.{QueuesGain}
 use Rattle.laws_engine.specs.Calls.{appended, heartbeat_taken, declared, dropped}
-use Rattle.laws_engine.specs.Engines.{Broken, PlainEngine, remains_at}
+use Rattle.laws_engine.specs.Engines.{IsExhausted, PlainEngine, remains_at}
 use Rattle.leases.specs.Queues.{LeavesQueues, LengthensQueues}
 use Rattle.leases.specs.Registering.{Registers}
 use Rattle.leases.specs.Takes.{Takes}
+
+-- FOUR REPLIES are one and the same
+abbrev pub AreOne : Reply × Reply × Reply × Reply → Type 0
+AreOne r = (r.1 ≡ r.0) × (r.2 ≡ r.0) × (r.3 ≡ r.0)
 
 -- ONE CALL on the engine for a command, which answers this
 abbrev pub IsCall : PlainEngine → Command → Reply → PlainEngine → Type 0
@@ -33,7 +37,7 @@ pub record Answered (old : PlainEngine) (c : Command) (r : Reply) (new : PlainEn
 -- nothing waits of a broken query
 abbrev pub IsSpent : PlainEngine → Command → Type 0
 IsSpent e (Take n limit) = (first_fault e.machine (Take n limit) ≡ None)
-    × (remains_at e n ≡ Broken [])
+    × IsExhausted (remains_at e n)
 IsSpent e c = ⊥
 
 -- the first test that fails, or want of memory, which may stand in

@@ -1,24 +1,30 @@
 -- What lies under the lock, and its steps: each is one call on the engine, or none.
 use Rattle.std.specs.Prelude.{◌≡◌, ℕ, ◌+◌, ◌<◌, ◌≤◌, ◌^◌, ◌⊎◌, List, [], ◌∷◌, ◌++◌, length, Bool}
 use Rattle.std.specs.Prelude.{false, true, Option, None, Result, Ok, Err, ⊤, IfErr, OnErr, OnOk}
+use Rattle.std.specs.Prelude.{◌≢◌, ◌↔◌, IfOk, IsTrue, Some, ℤ}
 use Rattle.envelope.specs.Fraction.{Fraction}
 use Rattle.plan.specs.declared.node.Kind.{Kind}
 use Rattle.reference.specs.Commands.{Command}
 use Rattle.reference.specs.Machine.{Machine, empty, query_named, stream_named}
 use Rattle.reference.specs.World.{Looks, slopes_at}
 use Rattle.reference.specs.declared.fault.Fault.{Fault}
-use Rattle.reference.specs.declared.fault.Fault.TheVariants.{HistoryFull, Foreign, OutOfMemory}
+use Rattle.reference.specs.declared.fault.Fault.TheVariants.{BadLimit, Foreign, HistoryFull}
+use Rattle.reference.specs.declared.fault.Fault.TheVariants.{OutOfMemory, TooManyLeases}
 use Rattle.turn.specs.declared.parts.Parts.{Parts}
 use Rattle.turn.specs.declared.turns.Turn.{Turn}
 use Rattle.run_queue.specs.Slots.{first_of}
 use Rattle.laws_engine.specs.Engines.{PlainEngine, world_of}
 use Rattle.laws_engine.specs.Openings.{forgotten}
-use Rattle.laws_engine.specs.Promises.{HasAllWaiting}
-use Rattle.leases.specs.Drains.{LeavesOthers, RunsTurns}
+use Rattle.laws_engine.specs.Promises.{AreCompleteUpto, HasAllWaiting}
+use Rattle.leases.specs.Drains.{LeavesOthers, RunsTurns, as_drained}
 use Rattle.leases.specs.Openings.{opening_in}
-use Rattle.leases.specs.Looks.{IsPending, WaitsAt}
+use Rattle.leases.specs.Looks.{IsPending, WaitsAt, status_in_engine}
+use Rattle.leases.specs.Takes.{Peeks}
+use Rattle.reference.specs.Steps.{AreNext}
+use Rattle.reference.specs.StatusViews.{status_in}
+use Rattle.reference.specs.declared.status.Status.{Status}
 use Rattle.leases.specs.Shown.{engine_in}
-use Rattle.leases.specs.Turns.{Abandons, Finishes, IsTurnOf, Leases}
+use Rattle.leases.specs.Turns.{Abandons, Finishes, HasReady, IsTurnOf, Leases}
 use Rattle.leases.specs.Views.{empty_engine}
 use Rattle.leases.specs.declared.leased.Leased.{Leased}
 use Rattle.leases.specs.declared.leased.Leased.TheVariants as leased
@@ -140,6 +146,23 @@ pub record Forgets (old : PlainLocked) (result : Result ⊤ Fault) (new : PlainL
   pub err : OnErr result (IsSame old new)
   pub want : IfErr result (λ f. f ≡ OutOfMemory)
 
+-- THE HUB FORGETS, or nothing is done. It never
+-- does for a caller that never lets it forget by itself
+pub record ForgetsWhenDue (old : PlainLocked) (values : ℕ) (result : Result Bool Fault)
+    (new : PlainLocked) : Type 0 where
+  pub legal : IsReplayed old
+  pub forgot : result ≡ Ok true → HasForgotten old new
+  pub not_due : result ≡ Ok false → new ≡ old
+  pub never : values ≡ 0 → result ≡ Ok false
+  pub err : OnErr result (IsSame old new)
+  pub want : IfErr result (λ f. f ≡ OutOfMemory)
+
+-- A SEAT SETTLED, and the hub forgets if it agreed and that is due
+abbrev pub ForgetsAfter : PlainLocked → Bool → ℕ → PlainLocked → Type 0
+ForgetsAfter settled true values new =
+    (forgot : Result Bool Fault) × ForgetsWhenDue settled values forgot new
+ForgetsAfter settled false values new = new ≡ settled
+
 -- A SEAT THAT AGREES with the hub settles: its receipts go, and seat and hub both keep how many
 -- calls that were, and up to which number
 pub record HasSettled (old : PlainLocked) (seat : PlainSeat) (new : PlainLocked)
@@ -195,6 +218,25 @@ pub record Drains (old : PlainLocked) (rows : ℕ) (result : Result ⊤ Fault)
   pub idle : OnOk result (first_of (engine_at new).slots ≡ None)
   pub all : OnOk result (HasAllWaiting (engine_at new))
 
+-- A DRAIN OF SOME TURNS: at most so many run under the lock, as in a drain. If an operator may
+-- still take something, just so many have run; if none may, it is as at the end of a drain. With no
+-- turn to run nothing changes
+pub record DrainsSome (old : PlainLocked) (rows turns : ℕ) (result : Result Bool Fault)
+    (new : PlainLocked) : Type 0 where
+  pub legal : IsReplayed old
+  pub runs : RunsTurns (engine_at old) rows (as_drained result) (engine_at new)
+  pub others : LeavesOthers (engine_at old) (as_drained result) (engine_at new)
+  pub machine : (engine_at new).machine ≡ (engine_at old).machine
+  pub most : (engine_at new).next ≤ (engine_at old).next + turns
+  pub some : turns ≢ 0 → HasReady (engine_at old)
+      → OnOk result ((engine_at old).next < (engine_at new).next)
+  pub more : result ≡ Ok true → HasReady (engine_at new)
+  pub last : result ≡ Ok true → (engine_at new).next ≡ (engine_at old).next + turns
+  pub idle : result ≡ Ok false → first_of (engine_at new).slots ≡ None
+  pub all : result ≡ Ok false → HasAllWaiting (engine_at new)
+  pub fewer : result ≡ Err TooManyLeases → (engine_at new).next < (engine_at old).next + turns
+  pub looks : turns ≡ 0 → (engine_at new ≡ engine_at old) × IfErr result (λ f. f ≡ BadLimit)
+
 -- a turn of at most so many rows goes out
 pub record Lends (old : PlainLocked) (rows : ℕ) (t : Turn) (new : PlainLocked) : Type 0 where
   pub legal : IsReplayed old
@@ -233,6 +275,16 @@ pub record FindsQuery (l : PlainLocked) (name : List ℕ) (found : Option ℕ) :
   pub is : found ≡ query_named (engine_at l).machine name
 
 -- WHAT LOOKS SEE
+-- whether an operator may take something
+pub record SeesReady (l : PlainLocked) (result : Bool) : Type 0 where
+  pub legal : IsReplayed l
+  pub is : IsTrue result ↔ HasReady (engine_at l)
+
+-- one may
+pub record IsReady (l : PlainLocked) : Type 0 where
+  pub legal : IsReplayed l
+  pub ready : HasReady (engine_at l)
+
 pub record SeesWaiting (l : PlainLocked) (query : ℕ) (result : Result ℕ Fault) : Type 0 where
   pub legal : IsReplayed l
   pub is : WaitsAt (engine_at l) query result
@@ -241,6 +293,20 @@ pub record SeesPending {A : Type 0} (view : A → List ℕ) (l : PlainLocked) (q
     (result : Result A Fault) : Type 0 where
   pub legal : IsReplayed l
   pub is : IsPending view (engine_at l) query result
+
+-- how far each stream and each query is; of each all answers up to there wait or were taken
+pub record SeesStatus (l : PlainLocked) (result : Result Status Fault) : Type 0 where
+  pub legal : IsReplayed l
+  pub is : IfOk result (λ s. status_in s ≡ status_in_engine (engine_at l))
+  pub upto : AreCompleteUpto (engine_at l)
+  pub want : IfErr result (λ f. f ≡ OutOfMemory)
+
+-- what a take would answer
+pub record SeesPeek {A : Type 0} (view : A → List (ℤ × List (Option ℤ))) (l : PlainLocked)
+    (query : ℕ) (limit : ℤ) (result : Result A Fault) : Type 0 where
+  pub legal : IsReplayed l
+  pub is : Peeks view (engine_at l) query limit result
+  pub next : IfOk result (λ rows. AreNext (engine_at l).machine query limit (view rows))
 
 pub record SeesSlopes {A : Type 0} (view : A → List (Kind × Fraction)) (l : PlainLocked) (query : ℕ)
     (result : Result A Fault) : Type 0 where
@@ -254,3 +320,29 @@ Took seat c r seat' = (old : PlainLocked) × (new : PlainLocked) × Accepted old
 
 abbrev pub Spurned : PlainSeat → Command → Fault → PlainSeat → Type 0
 Spurned seat c f seat' = (old : PlainLocked) × (new : PlainLocked) × Declined old seat c f new seat'
+
+-- A CALL THAT NAMES a stream or a query: its number is what the name has in that very step
+abbrev pub AcceptedNamed : (Machine → List ℕ → Option ℕ) → List ℕ → (ℕ → Command) → PlainLocked
+    → PlainSeat → Told → PlainLocked → PlainSeat → Type 0
+AcceptedNamed number_of name command old seat r new seat' =
+    (n : ℕ) × (number_of (engine_at old).machine name ≡ Some n)
+    × Accepted old seat (command n) r new seat'
+
+-- refused so; or nothing has that name, which is the fault
+abbrev pub DeclinedNamed : (Machine → List ℕ → Option ℕ) → List ℕ → Fault → (ℕ → Command)
+    → PlainLocked → PlainSeat → Fault → PlainLocked → PlainSeat → Type 0
+DeclinedNamed number_of name unknown command old seat f new seat' =
+    ((n : ℕ) × (number_of (engine_at old).machine name ≡ Some n)
+    × Declined old seat (command n) f new seat')
+    ⊎ (IsReplayed old × (number_of (engine_at old).machine name ≡ None) × (f ≡ unknown)
+    × (new ≡ old) × (seat' ≡ seat))
+
+abbrev pub TookNamed : (Machine → List ℕ → Option ℕ) → List ℕ → (ℕ → Command) → PlainSeat → Told
+    → PlainSeat → Type 0
+TookNamed number_of name command seat r seat' = (old : PlainLocked) × (new : PlainLocked)
+    × AcceptedNamed number_of name command old seat r new seat'
+
+abbrev pub SpurnedNamed : (Machine → List ℕ → Option ℕ) → List ℕ → Fault → (ℕ → Command)
+    → PlainSeat → Fault → PlainSeat → Type 0
+SpurnedNamed number_of name unknown command seat f seat' = (old : PlainLocked)
+    × (new : PlainLocked) × DeclinedNamed number_of name unknown command old seat f new seat'

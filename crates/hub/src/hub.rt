@@ -13,6 +13,7 @@ ghost use Rattle.hub.specs.declared.locked.TheConstants.{MAX_HISTORY, MAX_SEATS}
 
 mod calls;
 mod looks;
+mod named;
 mod turns;
 
 use crate::locked::{Closed, Locked};
@@ -20,14 +21,14 @@ use crate::seat::Seat;
 use reference::Fault;
 use std::alloc::Global;
 use std::marker::Model;
-use std::sync::{Condvar, Mutex};
+use std::sync::{Condvar, Mutex, MutexGuard};
 use turn::Turn;
 
 /// Shares an engine among many threads; each client has a seat. Contracts see how many seats it was
 /// opened with.
 ///
 /// Each call except `open` and `close` waits for the one lock, and runs one step of `Locked` under
-/// it. The two calls that wait for a turn run one step for each try.
+/// it. A call that waits runs one step for each try.
 #[derive(Drop)]
 pub struct Hub {
     /// Holds the engine with its history.
@@ -66,6 +67,23 @@ pub enum LeaseRest {
 }
 
 impl Hub {
+    // Gives the lock back, and wakes those who wait if they may go on.
+    pub(crate) fn release(&self, locked: MutexGuard<'_, Locked>, wakes: bool) {
+        drop(locked);
+        if wakes {
+            self.moved.notify_all();
+        }
+    }
+
+    // Gives the lock back, and wakes one of those who wait, if there is work. Whoever is woken wakes
+    // others if it brings a turn back and more is ready.
+    pub(crate) fn release_to_one(&self, locked: MutexGuard<'_, Locked>, wakes: bool) {
+        drop(locked);
+        if wakes {
+            self.moved.notify_one();
+        }
+    }
+
     /// Opens a hub with this many seats and a history of at most this many entries.
     ///
     /// # Errors

@@ -13,12 +13,15 @@ ghost use Rattle.hub.specs.Steps.{Forgets, IsFresh, IsReplayed, OpensAt, engine_
 ghost use Rattle.hub.specs.declared.locked.TheConstants.{MAX_HISTORY, MAX_SEATS};
 
 mod calls;
+mod forgets;
 mod looks;
+mod named;
 mod settles;
 mod turns;
 
 use crate::audit::{count_alone, is_accounted};
 use crate::ledger::Ledger;
+use crate::measure::Measure;
 use crate::seat::Seat;
 use histories::Entry;
 use leases::{Engine, Opening};
@@ -101,6 +104,10 @@ pub struct Locked {
     ledger: Ledger,
     /// Says whether the end was called.
     has_ended: bool,
+    /// Measures the history, to say when to forget. Contracts do not see it.
+    measure: Measure,
+    /// Counts the steps that may let a thread go on that could not. Contracts do not see it.
+    changes: u64,
 }
 
 impl Model for Locked {
@@ -167,6 +174,8 @@ impl Locked {
             seats,
             ledger,
             has_ended: false,
+            measure: Measure::new(history_limit),
+            changes: 0,
         };
         Ok((locked, places))
     }
@@ -197,6 +206,7 @@ impl Locked {
         self.engine.forget()?;
         self.first += self.history.len() as u64;
         self.history = Vec::new(self.alloc);
+        self.measure.restart(&opening);
         self.opening = opening;
         Ok(())
     }
@@ -247,6 +257,8 @@ impl Locked {
             seats: _,
             ledger,
             has_ended: _,
+            measure: _,
+            changes: _,
         } = self;
         Ok(Closed {
             opening,

@@ -67,6 +67,8 @@ impl Seat {
     }
 
     /// Returns which of its calls are settled.
+    ///
+    /// Example: `a_seat_settles` in crates/uses/src/hubs.rt.
     pub fn settled(&self) -> Settled
         ensures { result ≡ self.now.settled }
     {

@@ -23,3 +23,6 @@ pub mod MachineLemmas
 pub mod BeatLemmas
 pub mod ForgetLemmas
 pub mod OpeningLemmas
+pub mod PassLemmas
+pub mod QuietLemmas
+pub mod ClearLemmas

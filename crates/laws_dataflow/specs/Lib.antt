@@ -7,3 +7,4 @@ pub mod Plans
 pub mod Starts
 pub mod Laws
 pub mod Examples
+pub mod Passes

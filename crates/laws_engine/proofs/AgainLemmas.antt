@@ -14,32 +14,32 @@ use Rattle.laws_queries.specs.Widths.{width_at}
 use Rattle.laws_engine.specs.Calls.{with_queries, with_taken}
 use Rattle.laws_queries.specs.Queries.{HasInboxes, IsLeftInbox, IsRunning, RunsAt, log_at, node_at, operator_at, source_of, stream_log}
 
-pub source_again : (q : Registered) (n : ℕ) (node : plan.Node) → source_of (with_taken q n) node ≡ source_of q node
-source_again q n (Window s) = refl
-source_again q n (Select j cs) = refl
-source_again q n (Join i j ks) = refl
-source_again q n (Project j columns) = refl
-source_again q n (Group j by items) = refl
-source_again q n (Distinct j) = refl
-source_again q n (ToStream j op) = refl
+pub source_again : (q : Registered) (n ever : ℕ) (node : plan.Node) → source_of (with_taken q n ever) node ≡ source_of q node
+source_again q n ever (Window s) = refl
+source_again q n ever (Select j cs) = refl
+source_again q n ever (Join i j ks) = refl
+source_again q n ever (Project j columns) = refl
+source_again q n ever (Group j by items) = refl
+source_again q n ever (Distinct j) = refl
+source_again q n ever (ToStream j op) = refl
 
-left_again : (q : Registered) (n : ℕ) (log : Closed) (node : plan.Node) (i : Inbox) → IsLeftInbox q log node i → IsLeftInbox (with_taken q n) log node i
-left_again q n log (Window s) i h = h
-left_again q n log (Select j cs) i h = h
-left_again q n log (Join j k ks) i h = h
-left_again q n log (Project j columns) i h = h
-left_again q n log (Group j by items) i h = h
-left_again q n log (Distinct j) i h = h
-left_again q n log (ToStream j op) i h = h
+left_again : (q : Registered) (n ever : ℕ) (log : Closed) (node : plan.Node) (i : Inbox) → IsLeftInbox q log node i → IsLeftInbox (with_taken q n ever) log node i
+left_again q n ever log (Window s) i h = h
+left_again q n ever log (Select j cs) i h = h
+left_again q n ever log (Join j k ks) i h = h
+left_again q n ever log (Project j columns) i h = h
+left_again q n ever log (Group j by items) i h = h
+left_again q n ever log (Distinct j) i h = h
+left_again q n ever log (ToStream j op) i h = h
 
-module _ (vs ws : List ℕ) (m : Machine) (qs : List Registered) (q : Registered) (n : ℕ) where
-  pub log_again : (k : ℕ) → log_at (with_queries m qs) (with_taken q n) k ≡ log_at m q k
-  log_again k = ap (stream_log m.streams) (source_again q n (node_at q k))
+module _ (vs ws : List ℕ) (m : Machine) (qs : List Registered) (q : Registered) (n ever : ℕ) where
+  pub log_again : (k : ℕ) → log_at (with_queries m qs) (with_taken q n ever) k ≡ log_at m q k
+  log_again k = ap (stream_log m.streams) (source_again q n ever (node_at q k))
 
-  inboxes_again : (k : ℕ) (o : PlainOperator) → HasInboxes q (log_at m q k) (node_at q k) o → HasInboxes (with_taken q n) (log_at (with_queries m qs) (with_taken q n) k) (node_at q k) o
-  inboxes_again k o h = subst (λ g. HasInboxes (with_taken q n) g (node_at q k) o) (sym (log_again k)) (record { left = left_again q n (log_at m q k) (node_at q k) o.left h.left; right = h.right })
+  inboxes_again : (k : ℕ) (o : PlainOperator) → HasInboxes q (log_at m q k) (node_at q k) o → HasInboxes (with_taken q n ever) (log_at (with_queries m qs) (with_taken q n ever) k) (node_at q k) o
+  inboxes_again k o h = subst (λ g. HasInboxes (with_taken q n ever) g (node_at q k) o) (sym (log_again k)) (record { left = left_again q n ever (log_at m q k) (node_at q k) o.left h.left; right = h.right })
 
-  inner_again : (k : ℕ) (o : PlainOperator) (c : Cell) → RunsAt ws m q k o c → RunsAt ws (with_queries m qs) (with_taken q n) k o c
+  inner_again : (k : ℕ) (o : PlainOperator) (c : Cell) → RunsAt ws m q k o c → RunsAt ws (with_queries m qs) (with_taken q n ever) k o c
   inner_again k o c r = record {
     runs = subst (λ g. Runs (world_of m q) (width_at ws k) (node_at q k) o g c) (sym (log_again k)) r.runs;
     wide = r.wide;
@@ -47,7 +47,7 @@ module _ (vs ws : List ℕ) (m : Machine) (qs : List Registered) (q : Registered
     inboxes = inboxes_again k o r.inboxes;
   }
 
-  pub runs_again : (os : List PlainOperator) (given : List (ℕ × Row)) → IsRunning vs ws m q os given → IsRunning vs ws (with_queries m qs) (with_taken q n) os given
+  pub runs_again : (os : List PlainOperator) (given : List (ℕ × Row)) → IsRunning vs ws m q os given → IsRunning vs ws (with_queries m qs) (with_taken q n ever) os given
   runs_again os given r = record {
     stands = record { plan = r.stands.plan; wide = record { places = r.stands.wide.places; tables = r.stands.wide.tables } };
     many = r.many;

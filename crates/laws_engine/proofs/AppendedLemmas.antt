@@ -40,7 +40,7 @@ module _ (e : PlainEngine) (s : ℕ) (rows : List (ℤ × List (Option ℤ))) (g
   appended_slot n k None remains = refl
   appended_slot n k (Some q) (Running p) =
       ap (λ x. cond (nat_lt k (length q.nodes)) (Some (slot (slope_at q k) (cond (is_leased e n k) None (ready (operator_at p.operators k) x)) n k)) None) (logs q k)
-  appended_slot n k (Some q) (Broken answers) = refl
+  appended_slot n k (Some q) (Broken answers upto) = refl
   appended_slot n k (Some q) Dropped = refl
 
   pub append_good : GoodEngine (appended e s rows)

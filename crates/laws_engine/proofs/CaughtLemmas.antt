@@ -8,8 +8,8 @@ use Rattle.std.proofs.lemmas.Bool.{eqb-true}
 use Rattle.values.specs.Window.{Window}
 use Rattle.reference.specs.Machine.{Place, Registered, Stream, opens, until_for}
 use Rattle.laws_queries.specs.Queries.{PlainQuery}
-use Rattle.laws_engine.specs.Engines.{Broken, Dropped, GoodEngine, PlainEngine, PlainRemains, Running}
-use Rattle.laws_engine.specs.Openings.{marks_by, next_of}
+use Rattle.laws_engine.specs.Engines.{Broken, Dropped, GoodEngine, PlainEngine, PlainRemains, Running, next_of}
+use Rattle.laws_engine.specs.Openings.{marks_by}
 use Rattle.needed_rows.specs.Needed.{PlainReader}
 use Rattle.needed_rows.specs.Queries.{AreCaughtUp, reader_at, readers_of, readers_over}
 use Rattle.laws_engine.proofs.MarkLemmas.{next_reached}
@@ -61,7 +61,7 @@ module _ (streams : List Stream) (n : ℕ) (s : Stream) (at : slice_get streams 
       each-append (λ (r : PlainReader). r.next ≤ max r.first s.first_open) (readers_of n q (next_of q p) q.meaning.windows q.places) (readers_over n qs (marks_by qs ks))
       (sources q (next_of q p) (until_for streams q.places) q.meaning.windows q.places (h 0 q refl p refl) (least_each (opens streams q.places)))
       (over qs ks (λ i r a. h (suc i) r a))
-  over (q ∷ qs) (Broken answers ∷ ks) h = over qs ks (λ i r a. h (suc i) r a)
+  over (q ∷ qs) (Broken answers upto ∷ ks) h = over qs ks (λ i r a. h (suc i) r a)
   over (q ∷ qs) (Dropped ∷ ks) h = over qs ks (λ i r a. h (suc i) r a)
 
 pub caught_up : (e : PlainEngine) → GoodEngine e → (n : ℕ) (s : Stream) → slice_get e.machine.streams n ≡ Some s → AreCaughtUp s.first_open (readers_over n e.machine.queries (marks_by e.machine.queries e.queries))

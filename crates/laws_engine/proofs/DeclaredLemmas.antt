@@ -144,7 +144,7 @@ module _ (m : Machine) (ts : List Stream) (q : Registered) (is : IsQuery m.strea
           (runs_left (widths_of m.streams q) g.widths p.operators (g.taken ++ p.answers) g.runs.runs);
     };
   }
-  remains_left (Broken answers) g = given_left answers g
+  remains_left (Broken answers upto) g = given_left answers g
   remains_left Dropped g = given_left [] g
 
 -- A DECLARATION
@@ -167,7 +167,7 @@ module _ (e : PlainEngine) (name : List ℕ) (columns : List (List ℕ)) (start 
   declared_slot n k (Some q) (Running p) r =
       ap (λ x. cond (nat_lt k (length q.nodes)) (Some (slot (slope_at q k) (cond (is_leased e n k) None (ready (operator_at p.operators k) x)) n k)) None)
       (logs_left e.machine (record { name = name; columns = columns; elements = []; arrivals = 0; first_open = nat_abs start } ∷ []) q (is_query e g n q r) k)
-  declared_slot n k (Some q) (Broken answers) r = refl
+  declared_slot n k (Some q) (Broken answers upto) r = refl
   declared_slot n k (Some q) Dropped r = refl
 
   pub declare_good : GoodEngine (declared e name columns start)

@@ -57,7 +57,7 @@ module _ (e : PlainEngine) (n : ℕ) (g : GoodEngine e) (accepted : first_fault 
     plain = is.plain;
     running = changed_or_there (λ remains. Dropped) n a.query e.queries Dropped ne ∙ is.running;
     within = is.within;
-    first = subst (λ z. IsFirst (operator_at is.plain.operators a.operator) z a.side a.item) (sym (log_again [] [] e.machine (change n machine.dropped e.machine.queries) is.query is.query.taken a.operator)) is.first;
+    first = subst (λ z. IsFirst (operator_at is.plain.operators a.operator) z a.side a.item) (sym (log_again [] [] e.machine (change n machine.dropped e.machine.queries) is.query is.query.taken is.query.ever_taken a.operator)) is.first;
     near = is.near;
   }
 

@@ -39,7 +39,7 @@ body_few m q machine is since t =
     let few : count value ≤ 2 ^ 60 = (root_has_room vs m q (all.bounded q is since) any_cells).at_ticks t in
     subst (λ rows. length rows ≤ 2 ^ 60) (query_value vs m q stands.plan stands.wide t) (subst (λ n. n ≤ 2 ^ 60) (count_is value) few)
 
-module _ (e : PlainEngine) (g : GoodEngine e) (closed : HaveFewClosed e.machine) (n : ℕ) (q : Registered) (here : query_at e n ≡ Some q) (gone : (answers : List (ℕ × Row)) → remains_at e n ≡ Broken answers → q.is_dropped ≡ false) where
+module _ (e : PlainEngine) (g : GoodEngine e) (closed : HaveFewClosed e.machine) (n : ℕ) (q : Registered) (here : query_at e n ≡ Some q) (gone : (answers : List (ℕ × Row)) (upto : ℕ) → remains_at e n ≡ Broken answers upto → q.is_dropped ≡ false) where
   abbrev before : HasFewEarlier q
   before = few_earlier e.machine.queries n q closed.queries here
 
@@ -78,9 +78,9 @@ module _ (e : PlainEngine) (g : GoodEngine e) (closed : HaveFewClosed e.machine)
 
   one : (k : PlainRemains) → remains_at e n ≡ k → HasFewEarlier (restart q (mark_in q k) (answers_in k))
   one (Running p) i = restarted_few e g closed.streams n q p here i before
-  one (Broken answers) i =
+  one (Broken answers upto) i =
       let given : HasGiven e.machine q answers = subst (λ k. HasGiven e.machine q (answers_in k)) i (remains_given e.machine q (remains_at e n) (g.queries n q here)) in
-      let small : length answers ≤ instants * 2 ^ 60 = few (gone answers i) answers given in
+      let small : length answers ≤ instants * 2 ^ 60 = few (gone answers upto i) answers given in
       record { early = early answers given; few = omega (arith, small) }
   one Dropped i = record { early = tt; few = omega arith }
 
@@ -94,8 +94,8 @@ all_few [] ks l h = tt
 all_few (q ∷ qs) [] l h = absurd (omega (arith, l))
 all_few (q ∷ qs) (k ∷ ks) l h = (h 0 q refl, all_few qs ks (omega (arith, l)) (λ n r a. h (suc n) r a))
 
-pub forgotten_few : (e : PlainEngine) → GoodEngine e → HaveFewClosed e.machine → ((n : ℕ) (q : Registered) (answers : List (ℕ × Row)) → query_at e n ≡ Some q → remains_at e n ≡ Broken answers → q.is_dropped ≡ false) → HaveFewClosed (forgotten e).machine
+pub forgotten_few : (e : PlainEngine) → GoodEngine e → HaveFewClosed e.machine → ((n : ℕ) (q : Registered) (answers : List (ℕ × Row)) (upto : ℕ) → query_at e n ≡ Some q → remains_at e n ≡ Broken answers upto → q.is_dropped ≡ false) → HaveFewClosed (forgotten e).machine
 forgotten_few e g closed gone = record {
   streams = streams_few (needs_by e.machine.streams e.machine.queries (marks_by e.machine.queries e.queries)) 0 e.machine.streams closed.streams;
-  queries = all_few e.machine.queries e.queries g.many (λ n q a. few_left e g closed n q a (λ answers i. gone n q answers a i));
+  queries = all_few e.machine.queries e.queries g.many (λ n q a. few_left e g closed n q a (λ answers upto i. gone n q answers upto a i));
 }

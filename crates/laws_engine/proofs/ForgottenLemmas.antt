@@ -9,8 +9,8 @@ use Rattle.reference.specs.Opening.{restart}
 use Rattle.laws_queries.specs.Queries.{PlainQuery, log_at, operator_at}
 use Rattle.operators.specs.Operators.{waiting}
 use Rattle.operators.specs.States.{last_in}
-use Rattle.laws_engine.specs.Engines.{Dropped, GoodEngine, Goes, PlainRemains, PlainEngine, Running, answers_in, query_at, remains_at}
-use Rattle.laws_engine.specs.Openings.{forgotten, mark_in, marks_by, next_of}
+use Rattle.laws_engine.specs.Engines.{Dropped, GoodEngine, Goes, PlainRemains, PlainEngine, Running, answers_in, next_of, query_at, remains_at}
+use Rattle.laws_engine.specs.Openings.{forgotten, mark_in, marks_by}
 use Rattle.laws_engine.proofs.OpenedLemmas.{Marked, goes, opened_good, query_opened, waits_same}
 
 pub length-marks : (qs : List Registered) (ks : List PlainRemains) → length (marks_by qs ks) ≡ length qs

@@ -201,7 +201,7 @@ module _ (e : PlainEngine) (s : ℕ) (at : ℤ) (g : GoodEngine e) (h : IsHeartb
   beyond_in n k q (Running p) l = let f : nat_lt k (length q.nodes) ≡ false = not_less k (length q.nodes) l in rw f refl where
     not_less : (a b : ℕ) → b ≤ a → nat_lt a b ≡ false
     not_less a b l = grind (arith, l)
-  beyond_in n k q (Broken answers) l = refl
+  beyond_in n k q (Broken answers upto) l = refl
   beyond_in n k q Dropped l = refl
 
   pub quiet_slot : (n k : ℕ) (q : Registered) (p : PlainQuery) → query_at e n ≡ Some q → remains_at e n ≡ Running p → k < length q.nodes → is_reading q s (node_at q k) ≡ false → slot_of (closed_over e s at) n k ≡ slot_of e n k
@@ -234,9 +234,9 @@ module _ (e : PlainEngine) (s : ℕ) (at : ℤ) (g : GoodEngine e) (h : IsHeartb
   query_told : (n : ℕ) (q : Registered) (remains : PlainRemains) (slots : List Slot) → query_at e n ≡ Some q → remains_at e n ≡ remains → Partly e (closed_over e s at) n 0 slots
       → Partly e (closed_over e s at) (suc n) 0 (query_updated e (closed_over e s at) s n q remains slots)
   query_told n q (Running p) slots r remains part = windows_told n 0 q p q.nodes slots r remains (λ i. ap (node_at q) (omega arith)) (omega arith) part
-  query_told n q (Broken answers) slots r remains part = told_query e (closed_over e s at) n 0 slots part
+  query_told n q (Broken answers upto) slots r remains part = told_query e (closed_over e s at) n 0 slots part
       (λ j l. ap (slot_in (closed_over e s at) n j (query_at e n)) remains ∙ silent j (query_at e n) ∙ sym (ap (slot_in e n j (query_at e n)) remains)) where
-        silent : (j : ℕ) (o : Option Registered) → slot_in (closed_over e s at) n j o (Broken answers) ≡ slot_in e n j o (Broken answers)
+        silent : (j : ℕ) (o : Option Registered) → slot_in (closed_over e s at) n j o (Broken answers upto) ≡ slot_in e n j o (Broken answers upto)
         silent j None = refl
         silent j (Some x) = refl
   query_told n q Dropped slots r remains part = told_query e (closed_over e s at) n 0 slots part

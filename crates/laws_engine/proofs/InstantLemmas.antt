@@ -1,5 +1,5 @@
 -- The streams of the machine close no more instants than there are, and its queries have few earlier answers, whatever it was told.
-use Rattle.std.proofs.Common.{◌≡◌, ℕ, ℤ, zero, suc, pos, negsuc, ◌+◌, ◌-◌, ◌*◌, ◌^◌, ◌<◌, ◌≤◌, Bool, true, false, not, ◌&&◌, int_le, int_lt, nat_le, nat_abs, min, fold, Option, None, Some, List, [], ◌∷◌, ◌++◌, length, refl, sym, subst, arith, ◌+ℤ◌}
+use Rattle.std.proofs.Common.{◌≡◌, ℕ, ℤ, zero, suc, pos, negsuc, ◌+◌, ◌-◌, ◌*◌, ◌^◌, ◌<◌, ◌≤◌, Bool, true, false, not, ◌&&◌, int_le, int_lt, nat_le, nat_abs, min, fold, max, Option, None, Some, List, [], ◌∷◌, ◌++◌, length, refl, sym, subst, arith, ◌+ℤ◌}
 use Rattle.std.specs.Prelude.{Result, Ok, Err, slice_get}
 use Rattle.std.specs.List.{AllByRecursion}
 use Rattle.std.specs.Option.{is_some, option_map_or}
@@ -8,7 +8,7 @@ use Rattle.values.specs.Row.{Row}
 use Rattle.cql_reader.specs.Lexis.{is_name}
 use Rattle.plan.proofs.Lists.{each-append}
 use Rattle.reference.specs.Commands.{Append, Command, Declare, Drop, Found, Heartbeat, Register, Take, after, appended, are_columns, change, closed_to, dropped, first_fault, found, heartbeat_tests, is_instant, of_stream, registered, registered_as, took}
-use Rattle.reference.specs.Machine.{Machine, Place, Registered, Stream, opens, stream_named, until_for}
+use Rattle.reference.specs.Machine.{Machine, Place, Registered, Stream, first_for, opens, stream_named, until_for}
 use Rattle.reference.specs.declared.fault.Fault.{Fault}
 use Rattle.reference.specs.declared.fault.Fault.TheVariants.{Backward, BadColumns, BadName, InstantRange, Leap, NameTaken, TooMany}
 use Rattle.reference.specs.declared.fault.QueryFault.{QueryFault}
@@ -97,6 +97,18 @@ open_few (s ∷ ss) (suc n) h = open_few ss n h.1
 least_below : (x : ℕ) (xs : List ℕ) → fold min x xs ≤ x
 least_below x [] = omega arith
 least_below x (y ∷ xs) = let l : fold min (min x y) xs ≤ min x y = least_below (min x y) xs in omega (arith, l)
+
+greatest_below : (most x : ℕ) (xs : List ℕ) → x ≤ most → AllByRecursion (λ y. y ≤ most) xs → fold max x xs ≤ most
+greatest_below most x [] h g = h
+greatest_below most x (y ∷ xs) h g = greatest_below most (max x y) xs (omega (arith, h, g.0)) g.1
+
+opens_few : (ss : List Stream) (ps : List Place) → AllByRecursion HasFewClosed ss → AllByRecursion (λ y. y ≤ instants) (opens ss ps)
+opens_few ss [] h = tt
+opens_few ss (p ∷ ps) h = (open_few ss p.stream h, opens_few ss ps h)
+
+pub first_few : (ss : List Stream) (ps : List Place) → AllByRecursion HasFewClosed ss → first_for ss ps ≤ instants
+first_few ss [] h = omega arith
+first_few ss (p ∷ ps) h = greatest_below instants (option_map_or (λ s. s.first_open) (slice_get ss p.stream) 0) (opens ss ps) (open_few ss p.stream h) (opens_few ss ps h)
 
 pub until_few : (ss : List Stream) (ps : List Place) → AllByRecursion HasFewClosed ss → until_for ss ps ≤ instants
 until_few ss [] h = omega arith

@@ -7,7 +7,8 @@ use Rattle.plan.proofs.Lists.{by_test}
 use Rattle.reference.specs.Machine.{Registered}
 use Rattle.laws_queries.specs.Queries.{PlainQuery}
 use Rattle.run_queue.specs.declared.slots.Slot.{Slot}
-use Rattle.laws_engine.specs.Engines.{AreApart, AreRemains, Broken, Goes, GoodEngine, HasGiven, HasSlots, IsIn, IsLease, Lease, PlainEngine, Running, is_leased, is_of, next_at, query_at, remains_at, slot_at, slot_in, slot_of}
+use Rattle.laws_engine.specs.Engines.{AreApart, AreRemains, Broken, Goes, GoodEngine, HasGiven, HasSlots, IsIn, IsLease, Lease, PlainEngine, Running, is_leased, is_of, next_at, query_at, remains_at, slot_at, slot_in, slot_of, upto_at}
+use Rattle.laws_engine.specs.Orders.{IsReady}
 use Rattle.laws_engine.specs.Promises.{IsOfSteepest}
 use Rattle.laws_engine.specs.Calls.{IsLeasable, broken, given_out, leased, of_others, slot_updated}
 use Rattle.laws_engine.proofs.BackLemmas.{left_apart, numbered, remains_here, remains_there, same_query, unequal}
@@ -42,18 +43,11 @@ none_leased : {X : Type 0} (b : Bool) (o : Option X) (t : X) → cond b None o �
 none_leased true o t e = absurd (cc)
 none_leased false o t e = refl
 
--- A LEASE
-module _ (e : PlainEngine) (l : Lease) (q : Registered) (p : PlainQuery) (s : Slot) (g : GoodEngine e) (h : IsLeasable e l q p s) where
-  -- no turn of its operator is out
-  free : is_leased e l.query l.operator ≡ false
-  free =
-      let top : IsOfSteepest e s = (keeps_its_promises e g).steepest s h.first in
-      subst (λ z. is_leased e z l.operator ≡ false) (sym h.query)
-      (subst (λ z. is_leased e s.query z ≡ false) (sym h.operator) (none_leased (is_leased e s.query s.operator) _ (s.side, s.instant) top.next))
-
+-- A LEASE of any operator that might be leased
+module _ (e : PlainEngine) (l : Lease) (q : Registered) (p : PlainQuery) (g : GoodEngine e) (h : IsReady e l q p) where
   not_one : (a : Lease) → IsIn e.leases a → l.query ≡ a.query → l.operator ≡ a.operator → ⊥
   not_one a i eq eo =
-      let bad : true ≡ false = sym (any_in (is_of l.query l.operator) e.leases a i (is_of_same l.query l.operator a (sym eq) (sym eo))) ∙ free in
+      let bad : true ≡ false = sym (any_in (is_of l.query l.operator) e.leases a i (is_of_same l.query l.operator a (sym eq) (sym eo))) ∙ h.returned in
       cc
 
   not_number : (a : Lease) → IsIn e.leases a → l.number ≡ a.number → ⊥
@@ -91,8 +85,8 @@ module _ (e : PlainEngine) (l : Lease) (q : Registered) (p : PlainQuery) (s : Sl
       (slot_is e l.query l.operator q p h.of.registered h.of.running h.of.within) (slot_is (given_out e l) l.query l.operator q p h.of.registered h.of.running h.of.within)
       (λ n k ne. same_slot_in e e.queries (e.leases ++ l ∷ []) (e.next + 1) e.slots n k (any_push (is_of n k) e.leases l (is_of_other n k l ne)) (query_at e n) (remains_at e n))
 
-  pub lease_good : GoodEngine (leased e l q p)
-  lease_good = record {
+  pub ready_good : GoodEngine (leased e l q p)
+  ready_good = record {
     machine = g.machine;
     rows = g.rows;
     many = g.many;
@@ -101,6 +95,22 @@ module _ (e : PlainEngine) (l : Lease) (q : Registered) (p : PlainQuery) (s : Sl
     apart = out_apart;
     slots = out_slots;
   }
+
+-- the first slot's operator is one
+pub leasable_ready : (e : PlainEngine) (l : Lease) (q : Registered) (p : PlainQuery) (s : Slot) → GoodEngine e → IsLeasable e l q p s → IsReady e l q p
+leasable_ready e l q p s g h =
+    let top : IsOfSteepest e s = (keeps_its_promises e g).steepest s h.first in
+    record {
+      returned = subst (λ z. is_leased e z l.operator ≡ false) (sym h.query)
+          (subst (λ z. is_leased e s.query z ≡ false) (sym h.operator) (none_leased (is_leased e s.query s.operator) _ (s.side, s.instant) top.next));
+      number = h.number;
+      of = h.of;
+      item = h.item;
+      near = h.near;
+    }
+
+pub lease_good : (e : PlainEngine) (l : Lease) (q : Registered) (p : PlainQuery) (s : Slot) → GoodEngine e → IsLeasable e l q p s → GoodEngine (leased e l q p)
+lease_good e l q p s g h = ready_good e l q p g (leasable_ready e l q p s g h)
 
 -- A QUERY BREAKS
 pub other_turn : (n : ℕ) (ls : List Lease) (a : Lease) → IsIn (of_others n ls) a → a.query ≢ n
@@ -120,23 +130,23 @@ pub break_good : (e : PlainEngine) (n : ℕ) (q : Registered) (p : PlainQuery) �
 break_good e n q p g registered running =
     let few : n < length e.queries = omega (arith, g.many, slice_get_within e.machine.queries n q registered) in
     let goes : Goes e.machine q p = subst (AreRemains e.machine q) running (g.queries n q registered) in
-    let here : remains_at (broken e n p) n ≡ Broken p.answers = remains_here e n (Broken p.answers) few in
+    let here : remains_at (broken e n p) n ≡ Broken p.answers (upto_at e n) = remains_here e n (Broken p.answers (upto_at e n)) few in
     let far : (j : ℕ) → (j == n) ≡ false → j ≢ n = λ j f z. absurd (let h : (j == n) ≡ true = eq-eqb j n z in cc) in
     record {
       machine = g.machine;
       rows = g.rows;
-      many = length-set e.queries n (Broken p.answers) ∙ g.many;
+      many = length-set e.queries n (Broken p.answers (upto_at e n)) ∙ g.many;
       queries = λ j r at. by_test (j == n)
           (λ t. let same : j ≡ n = eqb-true j n t in
           let is : q ≡ r = same_query (sym registered ∙ ap (query_at e) (sym same) ∙ at) in
           subst (λ z. AreRemains e.machine r (remains_at (broken e n p) z)) (sym same) (subst (AreRemains e.machine r) (sym here) (subst (λ z. HasGiven e.machine z p.answers) is (remains_given e.machine q (Running p) goes))))
-          (λ f. subst (AreRemains e.machine r) (sym (remains_there e n j (Broken p.answers) (far j f))) (g.queries j r at));
+          (λ f. subst (AreRemains e.machine r) (sym (remains_there e n j (Broken p.answers (upto_at e n)) (far j f))) (g.queries j r at));
       leases = λ a i. let is : IsLease e a = g.leases a (in_filter _ e.leases a i).0 in record {
         numbered = is.numbered;
         query = is.query;
         registered = is.registered;
         plain = is.plain;
-        running = remains_there e n a.query (Broken p.answers) (other_turn n e.leases a i) ∙ is.running;
+        running = remains_there e n a.query (Broken p.answers (upto_at e n)) (other_turn n e.leases a i) ∙ is.running;
         within = is.within;
         first = is.first;
         near = is.near;
@@ -144,6 +154,6 @@ break_good e n q p g registered running =
       apart = left_apart _ e.leases g.apart;
       slots = left_slots (slot_of e) (slot_of (broken e n p)) e.slots n g.slots (numbered e)
           (λ k. ap (λ z. slot_in (broken e n p) n k z (remains_at (broken e n p) n)) registered ∙ ap (slot_in (broken e n p) n k (Some q)) here)
-          (λ j k ne. ap (slot_in (broken e n p) j k (query_at e j)) (remains_there e n j (Broken p.answers) ne)
-          ∙ same_slot_in e (set e.queries n (Broken p.answers)) (of_others n e.leases) e.next e.slots j k (any_of_others n j k e.leases ne) (query_at e j) (remains_at e j));
+          (λ j k ne. ap (slot_in (broken e n p) j k (query_at e j)) (remains_there e n j (Broken p.answers (upto_at e n)) ne)
+          ∙ same_slot_in e (set e.queries n (Broken p.answers (upto_at e n))) (of_others n e.leases) e.next e.slots j k (any_of_others n j k e.leases ne) (query_at e j) (remains_at e j));
     }

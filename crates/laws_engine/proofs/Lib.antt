@@ -19,6 +19,7 @@ pub mod RestingLemmas
 pub mod OpenedLemmas
 pub mod ForgottenLemmas
 pub mod AlikeLemmas
+pub mod BrokenLemmas
 pub mod RememberedLemmas
 pub mod ConditionLemmas
 pub mod NameLemmas
@@ -31,3 +32,6 @@ pub mod MarkLemmas
 pub mod CaughtLemmas
 pub mod MarkBoundLemmas
 pub mod FewLemmas
+pub mod UptoLemmas
+pub mod PassingLemmas
+pub mod OrderLemmas

@@ -20,8 +20,7 @@ use Rattle.laws_queries.specs.Queries.{PlainQuery}
 use Rattle.laws_queries.proofs.MachineCounts.{keeps_limit, queries_stand}
 use Rattle.laws_queries.proofs.PlanCounts.{count_is, root_has_room}
 use Rattle.laws_engine.specs.Bounds.{HasFewClosed, HasFewEarlier, instants}
-use Rattle.laws_engine.specs.Engines.{GoodEngine, Goes, HasGiven, PlainEngine, Running, query_at, remains_at}
-use Rattle.laws_engine.specs.Openings.{next_of}
+use Rattle.laws_engine.specs.Engines.{GoodEngine, Goes, HasGiven, PlainEngine, Running, next_of, query_at, remains_at}
 use Rattle.laws_engine.proofs.AnswerLemmas.{answers_lie_below}
 use Rattle.laws_engine.proofs.AppendedLemmas.{is_query}
 use Rattle.laws_engine.proofs.InstantLemmas.{until_few}

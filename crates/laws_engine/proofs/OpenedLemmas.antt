@@ -250,7 +250,7 @@ module _ (e : PlainEngine) (g : GoodEngine e) (marks : List (Option ℕ)) (long 
             runs = subst (λ vs. IsRunning vs h.widths (opened e marks).machine (restarted q a.next p.answers) p.operators p.answers) (sym widths) runs;
           };
         })
-    remains_opened n q r (Broken answers) k = record { taken = []; counted = refl; rest = _; begins = refl }
+    remains_opened n q r (Broken answers upto) k = record { taken = []; counted = refl; rest = _; begins = refl }
     remains_opened n q r Dropped k = record { taken = []; counted = refl; rest = _; begins = refl }
 
     pub query_opened : (n : ℕ) → query_at (opened e marks) n ≡ option_map (λ q. restart q (get_or marks n None) (get_or waits n [])) (query_at e n)
@@ -297,7 +297,7 @@ module _ (e : PlainEngine) (g : GoodEngine e) (marks : List (Option ℕ)) (long 
         here true l = ap (λ x. Some (slot (slope_at q k) (cond (is_leased e n k) None x) n k))
             (ready_by (operator_at p.operators k) (log_at e.machine q k) (log_at (opened e marks).machine q k) (waits_same n q p r h k (ltb-true k (length q.nodes) l)))
         here false l = refl
-    slot_opened n k (Some q) (Broken answers) r h = refl
+    slot_opened n k (Some q) (Broken answers upto) r h = refl
     slot_opened n k (Some q) Dropped r h = refl
 
     -- IT STAYS GOOD

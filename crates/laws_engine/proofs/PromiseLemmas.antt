@@ -22,7 +22,7 @@ pub remains_given : (m : Machine) (q : Registered) (remains : PlainRemains) → 
 remains_given m q (Running p) g =
     let r = (gives_its_answers (widths_of m.streams q) g.widths m q).beginning p.operators (g.taken ++ p.answers) g.runs.runs in
     record { taken = g.taken; counted = g.counted; rest = r.0; begins = r.1 }
-remains_given m q (Broken answers) g = g
+remains_given m q (Broken answers upto) g = g
 remains_given m q Dropped g = g
 
 begins : (e : PlainEngine) → GoodEngine e → GivesBeginnings e
@@ -53,7 +53,7 @@ slot_from e n k s None remains r f h = absurd (cc)
 slot_from e n k s (Some q) (Running p) r f h = by_test (nat_lt k (length q.nodes))
     (λ t. let g : Some (slot_at e n q p k) ≡ Some s = rw t at h in record { query = q; registered = r; plain = p; running = f; within = true_within k (length q.nodes) t; is = cc })
     (λ b. let g : None ≡ Some s = rw b at h in absurd (cc))
-slot_from e n k s (Some q) (Broken answers) r f h = absurd (cc)
+slot_from e n k s (Some q) (Broken answers upto) r f h = absurd (cc)
 slot_from e n k s (Some q) Dropped r f h = absurd (cc)
 
 pub is_slot : (e : PlainEngine) (n k : ℕ) (s : Slot) → slot_of e n k ≡ Some s → IsSlot e n k s

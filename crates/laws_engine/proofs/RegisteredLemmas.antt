@@ -108,7 +108,7 @@ module _ (e : PlainEngine) (q : Registered) (p : PlainQuery) (name text : List �
         plain = is.plain;
         running = remains_there a.query l ∙ is.running;
         within = is.within;
-        first = subst (λ z. IsFirst (operator_at is.plain.operators a.operator) z a.side a.item) (sym (log_again [] [] e.machine (e.machine.queries ++ q ∷ []) is.query is.query.taken a.operator)) is.first;
+        first = subst (λ z. IsFirst (operator_at is.plain.operators a.operator) z a.side a.item) (sym (log_again [] [] e.machine (e.machine.queries ++ q ∷ []) is.query is.query.taken is.query.ever_taken a.operator)) is.first;
         near = is.near;
       }
 

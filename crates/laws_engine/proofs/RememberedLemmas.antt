@@ -1,5 +1,5 @@
 -- Whatever an engine forgets, it gives the answers of the machine that forgets nothing.
-use Rattle.std.proofs.Common.{◌≡◌, ℕ, zero, suc, Bool, true, cond, inl, inr, None, Some, List, [], ◌∷◌, ◌++◌, drop, get_or, set, refl, sym, ap, ◌∙◌, subst, append_assoc, true≢false}
+use Rattle.std.proofs.Common.{◌≡◌, ℕ, zero, suc, Bool, true, cond, inl, inr, ⊎_elim, None, Some, List, [], ◌∷◌, ◌++◌, drop, get_or, length, set, refl, sym, ap, ◌∙◌, subst, append_assoc, true≢false}
 use Rattle.std.specs.Prelude.{slice_get}
 use Rattle.std.specs.Option.{option_map_or}
 use Rattle.values.specs.Row.{Row}
@@ -13,13 +13,15 @@ use Rattle.laws_forgetting.proofs.EquivalenceLemmas.{partly_joined}
 use Rattle.laws_forgetting.proofs.FaultLemmas.{faults_same}
 use Rattle.laws_forgetting.proofs.PartlyLemmas.{alike_of_fewer, ends_partly}
 use Rattle.laws_queries.specs.Queries.{PlainQuery}
-use Rattle.laws_engine.specs.Engines.{AreRemains, Broken, Dropped, GoodEngine, Goes, HasGiven, Lease, PlainEngine, PlainRemains, Running, query_at, remains_at}
+use Rattle.laws_queries.proofs.BeatLemmas.{same_number}
+use Rattle.laws_engine.specs.Engines.{AreRemains, Broken, Dropped, GoodEngine, Goes, HasGiven, Lease, PlainEngine, PlainRemains, Running, query_at, remains_at, upto_at}
 use Rattle.laws_engine.specs.Calls.{remains_after}
 use Rattle.laws_engine.specs.Histories.{Abandons, Breaks, Call, ComesBack, Finishes, Forgets, IsCallStep, IsCommandStep, Leases, Stays, Told, empty}
 use Rattle.laws_engine.specs.Openings.{forgotten, goes_on, is_running}
 use Rattle.laws_engine.specs.Promises.{HasGivenAll, HasNothingToRun}
 use Rattle.laws_engine.specs.Remembered.{GivesAsRemembered, LeadBoth, handed_by, remembered}
 use Rattle.laws_engine.proofs.AlikeLemmas.{forgotten_partly}
+use Rattle.laws_engine.proofs.BrokenLemmas.{BrokenBegin, running_within, set_before, set_broken, set_itself, told_broken}
 use Rattle.laws_engine.proofs.HistoryLemmas.{empty_good, step_good}
 use Rattle.laws_engine.proofs.IdleLemmas.{behind}
 use Rattle.laws_engine.proofs.PromiseLemmas.{keeps_its_promises, remains_given}
@@ -54,7 +56,7 @@ runs_on (k ∷ ks) (suc n) p h = runs_on ks n p h
 
 after_take : (count : ℕ) (k : PlainRemains) → is_running (remains_after count k) ≡ true → is_running k ≡ true
 after_take count (Running p) h = refl
-after_take count (Broken answers) h = h
+after_take count (Broken answers upto) h = h
 after_take count Dropped h = h
 
 told_on : (e e2 : PlainEngine) (c : Command) → IsCommandStep e c e2 → (n : ℕ) → goes_on e2 n ≡ true → goes_on e n ≡ true
@@ -99,14 +101,9 @@ module _ (e : PlainEngine) (m : Machine) (h : AreSame e m) where
   step_same e2 (Leases l) g t = subst (λ z. AreSame z m) (sym t.1.1.1.1) h
   step_same e2 (Finishes l) g t = comes_same e2 l t.1.0 t.1.1.0 t.1.1.1.0 t.1.1.1.1
   step_same e2 (Abandons l) g t = subst (λ z. AreSame z m) (sym t.1.1.1.1) h
-  step_same e2 (Breaks l) g t = subst (λ z. AreSame z m) (sym t.1.1.1.1) (set_same l.query (Broken t.1.1.0.answers) (λ i. absurd (true≢false (sym i))))
+  step_same e2 (Breaks l) g t = subst (λ z. AreSame z m) (sym t.1.1.1.1) (set_same l.query (Broken t.1.1.0.answers (upto_at e l.query)) (λ i. absurd (true≢false (sym i))))
   step_same e2 Forgets g t = subst (λ z. AreSame z m) (sym t) (partly_joined (goes_on e) m e.machine (forgotten e).machine h (forgotten_partly e g))
   step_same e2 Stays g t = subst (λ z. AreSame z m) (sym t) h
-
--- CALLS IN TURN
-both_same : (e e3 : PlainEngine) (m m3 : Machine) (calls : List Call) → GoodEngine e → AreSame e m → LeadBoth e m calls e3 m3 → GoodEngine e3 × AreSame e3 m3
-both_same e e3 m m3 [] g h t = (subst GoodEngine (sym t.0) g, subst (λ z. AreSame z m3) (sym t.0) (subst (AreSame e) (sym t.1) h))
-both_same e e3 m m3 (c ∷ calls) g h t = both_same t.0 e3 (remembered e c m) m3 calls (step_good e t.0 c g t.1.0) (step_same e m h t.0 c g t.1.0) t.1.1
 
 -- WHAT WAITS
 module _ (e : PlainEngine) (g : GoodEngine e) (m : Machine) (h : AreSame e m) (n : ℕ) (q r : Registered) (p : PlainQuery) (here : slice_get m.queries n ≡ Some q) (there : query_at e n ≡ Some r) (runs : remains_at e n ≡ Running p) where
@@ -126,7 +123,49 @@ module _ (e : PlainEngine) (g : GoodEngine e) (m : Machine) (h : AreSame e m) (n
       let all : HasGivenAll e r p = (keeps_its_promises e g).all n r p there runs none in
       same_untaken ∙ ap (drop r.taken) (sym all.all) ∙ behind r.taken all.taken p.answers all.counted
 
+-- WHAT WAITS OF A BROKEN QUERY
+module _ (e : PlainEngine) (g : GoodEngine e) (m : Machine) (h : AreSame e m) (broken : BrokenBegin e m) where
+  as_many : length e.queries ≡ length m.queries
+  as_many = g.many ∙ sym (ends_partly (goes_on e) m e.machine h).many
+
+  comes_broken : (e2 : PlainEngine) (l : Lease) (q : Registered) (p p2 : PlainQuery) → ComesBack e l q p p2 e2 → BrokenBegin e2 m
+  comes_broken e2 l q p p2 (inl t) n r answers upto here left = broken n r answers upto here (set_before p2 e.queries l.query n answers upto (sym (ap (λ z. remains_at z n) t.1) ∙ left))
+  comes_broken e2 l q p p2 (inr t) n r answers upto here left = broken n r answers upto here (set_before p2 e.queries l.query n answers upto (sym (ap (λ z. remains_at z n) t.1) ∙ left))
+
+  step_broken : (e2 : PlainEngine) (c : Call) → IsCallStep e c e2 → BrokenBegin e2 (remembered e c m)
+  step_broken e2 (Told c) t n q answers upto here left = told_broken e m as_many broken e2 c t (faults_same (goes_on e) m e.machine h c ∙ (told_machine e e2 c t).0) n q answers upto here left
+  step_broken e2 (Leases l) t n q answers upto here left = broken n q answers upto here (sym (ap (λ z. remains_at z n) t.1.1.1.1) ∙ left)
+  step_broken e2 (Finishes l) t n q answers upto here left = comes_broken e2 l t.1.0 t.1.1.0 t.1.1.1.0 t.1.1.1.1 n q answers upto here left
+  step_broken e2 (Abandons l) t n q answers upto here left = broken n q answers upto here (sym (ap (λ z. remains_at z n) t.1.1.1.1) ∙ left)
+  step_broken e2 (Breaks l) t n q answers upto here left =
+      let p : PlainQuery = t.1.1.0 in
+      let x : PlainRemains = Broken p.answers (upto_at e l.query) in
+      let now : get_or (set e.queries l.query x) n Dropped ≡ Broken answers upto = sym (ap (λ z. remains_at z n) t.1.1.1.1) ∙ left in
+      ⊎_elim
+      (λ same.
+      let is : x ≡ Broken answers upto = sym (set_itself x e.queries l.query (running_within e.queries l.query p t.1.1.1.0.running)) ∙ ap (λ i. get_or (set e.queries l.query x) i Dropped) (sym same) ∙ now in
+      let waits : p.answers ≡ answers = cc in
+      let begun = begins_same e g m h n q t.1.0 p here (ap (query_at e) same ∙ t.1.1.1.0.registered) (ap (remains_at e) same ∙ t.1.1.1.0.running) in
+      (begun.0, begun.1 ∙ ap (λ z. z ++ begun.0) waits))
+      (λ ne. broken n q answers upto here (sym (set_broken x e.queries l.query n ne) ∙ now))
+      (same_number n l.query)
+  step_broken e2 Forgets t n q answers upto here left = broken n q answers upto here (sym (ap (λ z. remains_at z n) t) ∙ left)
+  step_broken e2 Stays t n q answers upto here left = broken n q answers upto here (sym (ap (λ z. remains_at z n) t) ∙ left)
+
+-- CALLS IN TURN
+record AreBoth (e : PlainEngine) (m : Machine) : Type 0 where
+  good : GoodEngine e
+  same : AreSame e m
+  broken : BrokenBegin e m
+
+both_same : (e e3 : PlainEngine) (m m3 : Machine) (calls : List Call) → AreBoth e m → LeadBoth e m calls e3 m3 → AreBoth e3 m3
+both_same e e3 m m3 [] b t = subst (λ z. AreBoth z m3) (sym t.0) (subst (AreBoth e) (sym t.1) b)
+both_same e e3 m m3 (c ∷ calls) b t =
+    both_same t.0 e3 (remembered e c m) m3 calls
+    (record { good = step_good e t.0 c b.good t.1.0; same = step_same e m b.same t.0 c b.good t.1.0; broken = step_broken e b.good m b.same b.broken t.0 c t.1.0 }) t.1.1
+
 pub forget_none : (calls : List Call) (e : PlainEngine) (m : Machine) → LeadBoth empty machine.empty calls e m → GivesAsRemembered e m
 forget_none calls e m t =
-    let both : GoodEngine e × AreSame e m = both_same empty e machine.empty m calls empty_good (record { streams = refl; queries = tt }) t in
-    record { end = ends_partly (goes_on e) m e.machine both.1; begins = begins_same e both.0 m both.1; all = all_same e both.0 m both.1 }
+    let none : BrokenBegin empty machine.empty = λ n q answers upto here left. absurd (cc) in
+    let both : AreBoth e m = both_same empty e machine.empty m calls (record { good = empty_good; same = record { streams = refl; queries = tt }; broken = none }) t in
+    record { end = ends_partly (goes_on e) m e.machine both.same; begins = begins_same e both.good m both.same; broken = both.broken; all = all_same e both.good m both.same }

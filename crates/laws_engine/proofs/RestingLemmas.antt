@@ -97,5 +97,5 @@ module _ (e : PlainEngine) (s : ℕ) (at : ℤ) (g : GoodEngine e) (h : IsHeartb
         (λ within. by_test (is_reading q s (node_at q k)) (λ t. window_beat n k q p r f within t) (λ away. inr (quiet_slot e s at g h n k q p r f within away)))
         (λ l. inr (ap (λ z. slot_in (closed_over e s at) n k z (remains_at e n)) r ∙ beyond_in e s at g h n k q (remains_at e n) l ∙ sym (ap (λ z. slot_in e n k z (remains_at e n)) r)))
         (cases_lt k (length q.nodes))
-    by_query (Some q) (Broken answers) r f = inr (ap₂ (λ z x. slot_in (closed_over e s at) n k z x) r f ∙ sym (ap₂ (λ z x. slot_in e n k z x) r f))
+    by_query (Some q) (Broken answers upto) r f = inr (ap₂ (λ z x. slot_in (closed_over e s at) n k z x) r f ∙ sym (ap₂ (λ z x. slot_in e n k z x) r f))
     by_query (Some q) Dropped r f = inr (ap₂ (λ z x. slot_in (closed_over e s at) n k z x) r f ∙ sym (ap₂ (λ z x. slot_in e n k z x) r f))

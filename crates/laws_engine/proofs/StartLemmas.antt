@@ -133,7 +133,7 @@ module _ (m : Machine) (name text : List ℕ) (chart : Option (List (ℤ × ℤ)
     runs = record {
       wires = is.wires;
       sources = is.sources ∙ sources_are m name (found_of p) q.nodes;
-      runs = subst (IsRunning vs ws (with_queries m qs) q running.operators) (sym is.answers) (runs_again vs ws m qs q 0 running.operators [] (runs running is));
+      runs = subst (IsRunning vs ws (with_queries m qs) q running.operators) (sym is.answers) (runs_again vs ws m qs q 0 0 running.operators [] (runs running is));
     };
   }
 

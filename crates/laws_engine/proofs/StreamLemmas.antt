@@ -135,7 +135,7 @@ module _ (m : Machine) (n : ℕ) (rows : List (ℤ × List (Option ℤ))) (accep
       let stands : nets.Stands (widths_of m.streams q) m2 q = subst (λ vs. nets.Stands vs m2 q) (widths_by m.streams m2.streams columns q.places) ((queries_stand m2 machine2).stands q is2) in
       goes_over m m2 q p g columns
       (runs_on_at_appends (widths_of m.streams q) g.widths m q n rows accepted (has_short_inputs (widths_of m2.streams q) m2 q ((queries_stand m2 machine2).bounded q is2 (limit g.lives))) stands p.operators (g.taken ++ p.answers) g.runs.runs)
-  append_remains q (Broken answers) machine is limit g = given_over q answers g
+  append_remains q (Broken answers upto) machine is limit g = given_over q answers g
   append_remains q Dropped machine is limit g = given_over q [] g
 
 -- A HEARTBEAT
@@ -173,5 +173,5 @@ module _ (m : Machine) (n : ℕ) (at : ℤ) (accepted : first_fault m (Heartbeat
   heartbeat_remains q (Running p) machine rows queues g =
       goes_over m (after m (Heartbeat n at) 0) q p g (λ i. columns_changed (closed_to at) (λ s. refl) n i m.streams)
       (runs_on_at_heartbeats (widths_of m.streams q) g.widths m q n at accepted queues (rows_stand.reads g.widths m q rows machine g.sources) p.operators (g.taken ++ p.answers) g.runs.runs)
-  heartbeat_remains q (Broken answers) machine rows queues g = given_later q answers g
+  heartbeat_remains q (Broken answers upto) machine rows queues g = given_later q answers g
   heartbeat_remains q Dropped machine rows queues g = given_later q [] g

@@ -53,5 +53,5 @@ module _ (e : PlainEngine) (queries : List PlainRemains) (leases : List Lease) (
   pub same_slot_in : (o : Option Registered) (remains : PlainRemains) → slot_in (over e queries leases next slots) n k o remains ≡ slot_in e n k o remains
   same_slot_in None remains = refl
   same_slot_in (Some q) (Running p) = ap (λ s. cond (nat_lt k (length q.nodes)) (Some s) None) (same_slot_at q p p refl)
-  same_slot_in (Some q) (Broken answers) = refl
+  same_slot_in (Some q) (Broken answers upto) = refl
   same_slot_in (Some q) Dropped = refl

@@ -65,13 +65,13 @@ pub equal_slots : (table table2 : ℕ → ℕ → Option Slot) (slots : List Slo
 equal_slots table table2 slots e h = record { ordered = h.ordered; there = λ n k s t. h.there n k s (sym (e n k) ∙ t); only = λ s i. e s.query s.operator ∙ h.only s i }
 
 -- A QUERY of which more was taken, in a machine with the same streams
-sources_again : (q : Registered) (t : ℕ) (nodes : List plan.Node) → map (source_of q) nodes ≡ map (source_of (with_taken q t)) nodes
-sources_again q t [] = refl
-sources_again q t (node ∷ nodes) = ap₂ (λ y ys. y ∷ ys) (sym (source_again q t node)) (sources_again q t nodes)
+sources_again : (q : Registered) (t ever : ℕ) (nodes : List plan.Node) → map (source_of q) nodes ≡ map (source_of (with_taken q t ever)) nodes
+sources_again q t ever [] = refl
+sources_again q t ever (node ∷ nodes) = ap₂ (λ y ys. y ∷ ys) (sym (source_again q t ever node)) (sources_again q t ever nodes)
 
-goes_again : (m : Machine) (qs : List Registered) (q : Registered) (t : ℕ) (p : PlainQuery) (g : Goes m q p) (before behind : List (ℕ × Row)) → length before ≡ t → before ++ behind ≡ g.taken ++ p.answers
-    → Goes (with_queries m qs) (with_taken q t) (record p { answers = behind })
-goes_again m qs q t p g before behind counted whole = record {
+goes_again : (m : Machine) (qs : List Registered) (q : Registered) (t ever : ℕ) (p : PlainQuery) (g : Goes m q p) (before behind : List (ℕ × Row)) → length before ≡ t → before ++ behind ≡ g.taken ++ p.answers
+    → Goes (with_queries m qs) (with_taken q t ever) (record p { answers = behind })
+goes_again m qs q t ever p g before behind counted whole = record {
   lives = g.lives;
   widths = g.widths;
   sources = g.sources;
@@ -79,20 +79,20 @@ goes_again m qs q t p g before behind counted whole = record {
   counted = counted;
   runs = record {
     wires = g.runs.wires;
-    sources = g.runs.sources ∙ sources_again q t q.nodes;
-    runs = runs_again (widths_of m.streams q) g.widths m qs q t p.operators (before ++ behind) (subst (IsRunning (widths_of m.streams q) g.widths m q p.operators) (sym whole) g.runs.runs);
+    sources = g.runs.sources ∙ sources_again q t ever q.nodes;
+    runs = runs_again (widths_of m.streams q) g.widths m qs q t ever p.operators (before ++ behind) (subst (IsRunning (widths_of m.streams q) g.widths m q p.operators) (sym whole) g.runs.runs);
   };
 }
 
-given_again : (m : Machine) (qs : List Registered) (q : Registered) (t : ℕ) (waiting behind before rest : List (ℕ × Row)) → HasGiven m q waiting → length before ≡ t → closed_answers m q ≡ (before ++ behind) ++ rest
-    → HasGiven (with_queries m qs) (with_taken q t) behind
-given_again m qs q t waiting behind before rest g counted begins = record { taken = before; counted = counted; rest = rest; begins = begins }
+given_again : (m : Machine) (qs : List Registered) (q : Registered) (t ever : ℕ) (waiting behind before rest : List (ℕ × Row)) → HasGiven m q waiting → length before ≡ t → closed_answers m q ≡ (before ++ behind) ++ rest
+    → HasGiven (with_queries m qs) (with_taken q t ever) behind
+given_again m qs q t ever waiting behind before rest g counted begins = record { taken = before; counted = counted; rest = rest; begins = begins }
 
 -- as it was
 pub remains_again : (m : Machine) (qs : List Registered) (q : Registered) (remains : PlainRemains) → AreRemains m q remains → AreRemains (with_queries m qs) q remains
-remains_again m qs q (Running p) g = goes_again m qs q q.taken p g g.taken p.answers g.counted refl
-remains_again m qs q (Broken answers) g = given_again m qs q q.taken answers answers g.taken g.rest g g.counted g.begins
-remains_again m qs q Dropped g = given_again m qs q q.taken [] [] g.taken g.rest g g.counted g.begins
+remains_again m qs q (Running p) g = goes_again m qs q q.taken q.ever_taken p g g.taken p.answers g.counted refl
+remains_again m qs q (Broken answers upto) g = given_again m qs q q.taken q.ever_taken answers answers g.taken g.rest g g.counted g.begins
+remains_again m qs q Dropped g = given_again m qs q q.taken q.ever_taken [] [] g.taken g.rest g g.counted g.begins
 
 -- the first answers that wait go to those that were taken
 moved : (before waiting : List (ℕ × Row)) (count : ℕ) → (before ++ take count waiting) ++ drop count waiting ≡ before ++ waiting
@@ -106,33 +106,33 @@ many_taken n before waiting count e few = omega (arith, length-append before (ta
   exact (x ∷ xs) zero h = refl
   exact (x ∷ xs) (suc c) h = ap suc (exact xs c (omega (arith, h)))
 
-remains_taken : (m : Machine) (qs : List Registered) (q : Registered) (count : ℕ) (remains : PlainRemains) → count ≤ length (answers_in remains) → AreRemains m q remains → AreRemains (with_queries m qs) (with_taken q (q.taken + count)) (remains_after count remains)
+remains_taken : (m : Machine) (qs : List Registered) (q : Registered) (count : ℕ) (remains : PlainRemains) → count ≤ length (answers_in remains) → AreRemains m q remains → AreRemains (with_queries m qs) (took count q) (remains_after count remains)
 remains_taken m qs q count (Running p) few g =
-    goes_again m qs q (q.taken + count) p g (g.taken ++ take count p.answers) (drop count p.answers) (many_taken q.taken g.taken p.answers count g.counted few) (moved g.taken p.answers count)
-remains_taken m qs q count (Broken answers) few g =
-    given_again m qs q (q.taken + count) answers (drop count answers) (g.taken ++ take count answers) g.rest g (many_taken q.taken g.taken answers count g.counted few) (g.begins ∙ ap (λ z. z ++ g.rest) (sym (moved g.taken answers count)))
-remains_taken m qs q count Dropped few g = given_again m qs q (q.taken + count) [] [] g.taken g.rest g (omega (arith, g.counted, few)) g.begins
+    goes_again m qs q (q.taken + count) (took count q).ever_taken p g (g.taken ++ take count p.answers) (drop count p.answers) (many_taken q.taken g.taken p.answers count g.counted few) (moved g.taken p.answers count)
+remains_taken m qs q count (Broken answers upto) few g =
+    given_again m qs q (q.taken + count) (took count q).ever_taken answers (drop count answers) (g.taken ++ take count answers) g.rest g (many_taken q.taken g.taken answers count g.counted few) (g.begins ∙ ap (λ z. z ++ g.rest) (sym (moved g.taken answers count)))
+remains_taken m qs q count Dropped few g = given_again m qs q (q.taken + count) (took count q).ever_taken [] [] g.taken g.rest g (omega (arith, g.counted, few)) g.begins
 
 -- THE ENGINE over a machine with the same streams
 abbrev pub anew : PlainEngine → List Registered → List PlainRemains → List Lease → List Slot → PlainEngine
 anew e qs queries leases slots = record { machine = with_queries e.machine qs; queries = queries; leases = leases; next = e.next; slots = slots }
 
 module _ (e : PlainEngine) (qs : List Registered) (queries : List PlainRemains) (leases : List Lease) (slots : List Slot) (n k : ℕ) (leased : list_any (is_of n k) leases ≡ list_any (is_of n k) e.leases) where
-  slot_anew : (q : Registered) (t : ℕ) (p : PlainQuery) (answers : List (ℕ × Row)) → slot_at (anew e qs queries leases slots) n (with_taken q t) (record p { answers = answers }) k ≡ slot_at e n q p k
-  slot_anew q t p answers =
-      ap (λ b. slot (slope_at q k) (cond b None (ready_in (with_queries e.machine qs) (with_taken q t) p k)) n k) leased
-      ∙ ap (λ x. slot (slope_at q k) (cond (is_leased e n k) None (ready (operator_at p.operators k) x)) n k) (log_again [] [] e.machine qs q t k)
+  slot_anew : (q : Registered) (t ever : ℕ) (p : PlainQuery) (answers : List (ℕ × Row)) → slot_at (anew e qs queries leases slots) n (with_taken q t ever) (record p { answers = answers }) k ≡ slot_at e n q p k
+  slot_anew q t ever p answers =
+      ap (λ b. slot (slope_at q k) (cond b None (ready_in (with_queries e.machine qs) (with_taken q t ever) p k)) n k) leased
+      ∙ ap (λ x. slot (slope_at q k) (cond (is_leased e n k) None (ready (operator_at p.operators k) x)) n k) (log_again [] [] e.machine qs q t ever k)
 
   pub same_anew : (o : Option Registered) (remains : PlainRemains) → slot_in (anew e qs queries leases slots) n k o remains ≡ slot_in e n k o remains
   same_anew None remains = refl
-  same_anew (Some q) (Running p) = ap (λ s. cond (nat_lt k (length q.nodes)) (Some s) None) (slot_anew q q.taken p p.answers)
-  same_anew (Some q) (Broken answers) = refl
+  same_anew (Some q) (Running p) = ap (λ s. cond (nat_lt k (length q.nodes)) (Some s) None) (slot_anew q q.taken q.ever_taken p p.answers)
+  same_anew (Some q) (Broken answers upto) = refl
   same_anew (Some q) Dropped = refl
 
   taken_anew : (count : ℕ) (o : Option Registered) (remains : PlainRemains) → slot_in (anew e qs queries leases slots) n k (option_map (took count) o) (remains_after count remains) ≡ slot_in e n k o remains
   taken_anew count None remains = refl
-  taken_anew count (Some q) (Running p) = ap (λ s. cond (nat_lt k (length q.nodes)) (Some s) None) (slot_anew q (q.taken + count) p (drop count p.answers))
-  taken_anew count (Some q) (Broken answers) = refl
+  taken_anew count (Some q) (Running p) = ap (λ s. cond (nat_lt k (length q.nodes)) (Some s) None) (slot_anew q (q.taken + count) (took count q).ever_taken p (drop count p.answers))
+  taken_anew count (Some q) (Broken answers upto) = refl
   taken_anew count (Some q) Dropped = refl
 
 -- A TAKE
@@ -164,7 +164,7 @@ module _ (e : PlainEngine) (n : ℕ) (limit : ℤ) (count : ℕ) (g : GoodEngine
         plain = record is.plain { answers = drop count is.plain.answers };
         running = ap (remains_at (taken e n limit count)) same ∙ here_remains ∙ ap (remains_after count) (ap (remains_at e) (sym same) ∙ is.running);
         within = is.within;
-        first = subst (λ z. IsFirst (operator_at is.plain.operators a.operator) z a.side a.item) (sym (log_again [] [] e.machine (change n (took count) e.machine.queries) is.query (is.query.taken + count) a.operator)) is.first;
+        first = subst (λ z. IsFirst (operator_at is.plain.operators a.operator) z a.side a.item) (sym (log_again [] [] e.machine (change n (took count) e.machine.queries) is.query (is.query.taken + count) (took count is.query).ever_taken a.operator)) is.first;
         near = is.near;
       })
       (λ ne. record {
@@ -174,7 +174,7 @@ module _ (e : PlainEngine) (n : ℕ) (limit : ℤ) (count : ℕ) (g : GoodEngine
         plain = is.plain;
         running = changed_or_there (remains_after count) n a.query e.queries Dropped ne ∙ is.running;
         within = is.within;
-        first = subst (λ z. IsFirst (operator_at is.plain.operators a.operator) z a.side a.item) (sym (log_again [] [] e.machine (change n (took count) e.machine.queries) is.query is.query.taken a.operator)) is.first;
+        first = subst (λ z. IsFirst (operator_at is.plain.operators a.operator) z a.side a.item) (sym (log_again [] [] e.machine (change n (took count) e.machine.queries) is.query is.query.taken is.query.ever_taken a.operator)) is.first;
         near = is.near;
       })
       (same_number a.query n)

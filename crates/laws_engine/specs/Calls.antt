@@ -20,6 +20,7 @@ use Rattle.run_queue.specs.Slots.{changed, first_of, put, without_query}
 use Rattle.run_queue.specs.declared.slots.Slot.{Slot}
 use Rattle.laws_engine.specs.Engines.{Broken, Dropped, Goes, Lease, PlainEngine, PlainRemains}
 use Rattle.laws_engine.specs.Engines.{Running, answers_in, next_at, query_at, remains_at, slot_at}
+use Rattle.laws_engine.specs.Engines.{upto_at}
 
 -- the slots with that of the operator k of the query n,
 -- which is in `old`, with what this may take next in `new`
@@ -110,21 +111,24 @@ pub record IsAnsweredTurn (e : PlainEngine) (l : Lease) (q : Registered)
   pub sources : p2.sources ≡ p.sources
   pub answers : p2.answers ≡ p.answers ++ rows
 
--- A REFUSED GROWTH breaks the query of the turn: its turns
--- end, its slots leave, and what waits can be taken still
+-- A REFUSED GROWTH breaks the query of the turn: its turns end, its slots leave,
+-- what waits can be taken still, and its answers are complete up to where they were
 abbrev pub of_others : ℕ → List Lease → List Lease
 of_others n ls = filter (λ l. not (l.query == n)) ls
 
-abbrev pub broken : PlainEngine → ℕ → PlainQuery → PlainEngine
-broken e n p = record e {
-  queries = set e.queries n (Broken p.answers);
+abbrev pub broken_at : PlainEngine → ℕ → PlainQuery → ℕ → PlainEngine
+broken_at e n p upto = record e {
+  queries = set e.queries n (Broken p.answers upto);
   leases = of_others n e.leases;
   slots = without_query n e.slots;
 }
 
+abbrev pub broken : PlainEngine → ℕ → PlainQuery → PlainEngine
+broken e n p = broken_at e n p (upto_at e n)
+
 -- A TAKE changes how many answers of a query were taken, and so the machine's queries
-abbrev pub with_taken : Registered → ℕ → Registered
-with_taken q n = record q { taken = n }
+abbrev pub with_taken : Registered → ℕ → ℕ → Registered
+with_taken q n ever = record q { taken = n; ever_taken = ever }
 
 abbrev pub with_queries : Machine → List Registered → Machine
 with_queries m qs = record m { queries = qs }
@@ -132,7 +136,7 @@ with_queries m qs = record m { queries = qs }
 -- the first of the answers that wait are handed out, also of a broken query
 abbrev pub remains_after : ℕ → PlainRemains → PlainRemains
 remains_after count (Running p) = Running (record p { answers = drop count p.answers })
-remains_after count (Broken answers) = Broken (drop count answers)
+remains_after count (Broken answers upto) = Broken (drop count answers) upto
 remains_after count Dropped = Dropped
 
 abbrev pub taken : PlainEngine → ℕ → ℤ → ℕ → PlainEngine
@@ -181,7 +185,7 @@ windows_updated old new s n q p k (node ∷ nodes) slots =
 abbrev pub query_updated : PlainEngine → PlainEngine → ℕ → ℕ → Registered → PlainRemains
     → List Slot → List Slot
 query_updated old new s n q (Running p) slots = windows_updated old new s n q p 0 q.nodes slots
-query_updated old new s n q (Broken answers) slots = slots
+query_updated old new s n q (Broken answers upto) slots = slots
 query_updated old new s n q Dropped slots = slots
 
 -- those of the queries from the number n on

@@ -3,16 +3,19 @@ use Rattle.std.specs.Prelude.{ℕ, Bool, false, ◌≡◌, ◌<◌, ◌==◌, �
 use Rattle.std.specs.Prelude.{None, List, [], ◌∷◌, ◌++◌, length, map, get_or, slice_get}
 use Rattle.std.specs.List.{list_any}
 use Rattle.std.specs.List.Sorted.{IsStrictlySortedBy}
+use Rattle.std.specs.Option.{option_map_or}
 use Rattle.values.specs.Row.{Row}
 use Rattle.column.specs.declared.batch.Side.{Side}
 use Rattle.op_queue.specs.declared.item.Item.{Item}
 use Rattle.turn.specs.declared.excerpts.Near.{Near}
 use Rattle.operators.specs.Operators.{ready}
-use Rattle.operators.specs.States.{near_of}
+use Rattle.operators.specs.States.{last_in, near_of}
 use Rattle.envelope.specs.Fraction.{Fraction, fraction}
 use Rattle.plan.specs.Paths.{plan_slopes}
 use Rattle.reference.specs.Machine.{Machine, Registered, closed_answers}
 use Rattle.reference.specs.World.{World}
+use Rattle.laws_dataflow.specs.Plans.{below_root}
+use Rattle.laws_dataflow.specs.Queries.{behind}
 use Rattle.laws_queries.specs.Machines.{IsMachine, widths_of}
 use Rattle.laws_queries.specs.Queries.{IsPlainQuery, PlainQuery, log_at, operator_at}
 use Rattle.laws_queries.specs.Rows.{AreSourceWidths, HaveRows}
@@ -25,18 +28,24 @@ abbrev pub IsIn : {X : Type 0} → List X → X → Type 0
 IsIn [] x = ⊥
 IsIn (y ∷ ys) x = (y ≡ x) ⊎ IsIn ys x
 
--- what is left of a registered query: it runs, or was
--- broken by a growth that was refused, or was dropped
+-- what is left of a registered query: it runs, or was dropped, or was broken by a growth that was
+-- refused; then its answers are left that wait, and the first instant whose answers may be missing
 pub data PlainRemains : Type 0 where
   Running : PlainQuery → PlainRemains
-  Broken : List (ℕ × Row) → PlainRemains
+  Broken : List (ℕ × Row) → ℕ → PlainRemains
   Dropped : PlainRemains
 
 -- the answers that wait
 abbrev pub answers_in : PlainRemains → List (ℕ × Row)
 answers_in (Running p) = p.answers
-answers_in (Broken answers) = answers
+answers_in (Broken answers upto) = answers
 answers_in Dropped = []
+
+-- it is broken, and nothing waits
+abbrev pub IsExhausted : PlainRemains → Type 0
+IsExhausted (Running p) = ⊥
+IsExhausted (Broken answers upto) = answers ≡ []
+IsExhausted Dropped = ⊥
 
 -- a turn that is out: its number, the operator of a query
 -- that it is of, and the item of a side with the excerpt
@@ -63,9 +72,33 @@ remains_at e n = get_or e.queries n Dropped
 abbrev pub query_at : PlainEngine → ℕ → Option Registered
 query_at e n = slice_get e.machine.queries n
 
--- the machine with the answers that wait
+-- HOW FAR THE QUERIES ARE
+-- of one that runs, the instant after the last tick that its root has taken, or its first one
+abbrev pub next_of : Registered → PlainQuery → ℕ
+next_of q p = behind q.first (last_in (operator_at p.operators (below_root q.nodes)).state)
+
+-- the first instant whose answers may still be missing
+abbrev pub upto_in : Registered → PlainRemains → ℕ
+upto_in q (Running p) = next_of q p
+upto_in q (Broken answers upto) = upto
+upto_in q Dropped = 0
+
+abbrev pub upto_by : List Registered → List PlainRemains → List ℕ
+upto_by [] remains = []
+upto_by (q ∷ qs) [] = []
+upto_by (q ∷ qs) (k ∷ remains) = upto_in q k ∷ upto_by qs remains
+
+-- that of the query of a number
+abbrev pub upto_at : PlainEngine → ℕ → ℕ
+upto_at e n = option_map_or (λ q. upto_in q (remains_at e n)) (query_at e n) 0
+
+-- the machine with the answers that wait, and up to where they are complete
 abbrev pub world_of : PlainEngine → World
-world_of e = record { machine = e.machine; waiting = map answers_in e.queries }
+world_of e = record {
+  machine = e.machine;
+  waiting = map answers_in e.queries;
+  upto = upto_by e.machine.queries e.queries;
+}
 
 -- THE SLOTS
 abbrev pub is_of : ℕ → ℕ → Lease → Bool
@@ -93,7 +126,7 @@ abbrev pub slot_in : PlainEngine → ℕ → ℕ → Option Registered → Plain
 slot_in e n k None remains = None
 slot_in e n k (Some q) (Running p) =
     cond (nat_lt k (length q.nodes)) (Some (slot_at e n q p k)) None
-slot_in e n k (Some q) (Broken answers) = None
+slot_in e n k (Some q) (Broken answers upto) = None
 slot_in e n k (Some q) Dropped = None
 
 abbrev pub slot_of : PlainEngine → ℕ → ℕ → Option Slot
@@ -125,7 +158,7 @@ pub record Goes (m : Machine) (q : Registered) (p : PlainQuery) : Type 0 where
 
 abbrev pub AreRemains : Machine → Registered → PlainRemains → Type 0
 AreRemains m q (Running p) = Goes m q p
-AreRemains m q (Broken answers) = HasGiven m q answers
+AreRemains m q (Broken answers upto) = HasGiven m q answers
 AreRemains m q Dropped = HasGiven m q []
 
 -- THE TURNS THAT ARE OUT

@@ -9,3 +9,5 @@ pub mod Remembered
 pub mod Accepted
 pub mod Examples
 pub mod Bounds
+pub mod Passing
+pub mod Orders

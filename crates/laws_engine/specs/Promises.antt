@@ -4,12 +4,13 @@ use Rattle.std.specs.declared.cmp.Ordering.TheVariants.{Less}
 use Rattle.values.specs.Row.{Row}
 use Rattle.column.specs.declared.batch.Side.{Side}
 use Rattle.envelope.specs.Fraction.{NoGreater}
-use Rattle.reference.specs.Machine.{Registered, closed_answers}
+use Rattle.reference.specs.Machine.{Machine, Registered, closed_answers}
+use Rattle.laws_forgetting.specs.Openings.{answers_below}
 use Rattle.laws_queries.specs.Queries.{PlainQuery}
 use Rattle.run_queue.specs.Slots.{first_of, slot_cmp}
 use Rattle.run_queue.specs.declared.slots.Slot.{Slot}
 use Rattle.laws_engine.specs.Engines.{HasGiven, PlainEngine, Running, answers_in, is_leased}
-use Rattle.laws_engine.specs.Engines.{next_at, query_at, remains_at, slope_at, slot_at}
+use Rattle.laws_engine.specs.Engines.{next_at, next_of, query_at, remains_at, slope_at, slot_at}
 
 -- OF EACH QUERY the answers that were taken, and those that wait,
 -- are a beginning of CQL's answers for the instants that are closed
@@ -59,6 +60,18 @@ abbrev pub TellsIdleness : PlainEngine → Type 0
 TellsIdleness e = first_of e.slots ≡ None → (n k : ℕ) (q : Registered) (p : PlainQuery)
     → query_at e n ≡ Some q → remains_at e n ≡ Running p → k < length q.nodes
     → next_at e n q p k ≡ None
+
+-- THE ANSWERS BELOW AN INSTANT: those that were taken, and those that wait, are just these
+pub record HasGivenBelow (m : Machine) (q : Registered) (waiting : List (ℕ × Row))
+    (upto : ℕ) : Type 0 where
+  pub taken : List (ℕ × Row)
+  pub counted : length taken ≡ q.taken
+  pub all : taken ++ waiting ≡ answers_below m q upto
+
+-- so of each query that runs, up to the instant after the last tick of its root
+abbrev pub AreCompleteUpto : PlainEngine → Type 0
+AreCompleteUpto e = (n : ℕ) (q : Registered) (p : PlainQuery) → query_at e n ≡ Some q
+    → remains_at e n ≡ Running p → HasGivenBelow e.machine q p.answers (next_of q p)
 
 -- ALL FOUR
 pub record KeepsItsPromises (e : PlainEngine) : Type 0 where

@@ -7,7 +7,8 @@ use Rattle.reference.specs.Machine.{Machine, Registered}
 use Rattle.reference.specs.World.{untaken}
 use Rattle.laws_forgetting.specs.Partly.{EndPartlyAlike}
 use Rattle.laws_queries.specs.Queries.{PlainQuery}
-use Rattle.laws_engine.specs.Engines.{PlainEngine, Running, answers_in, query_at, remains_at}
+use Rattle.laws_engine.specs.Engines.{Broken, PlainEngine, Running, answers_in, query_at}
+use Rattle.laws_engine.specs.Engines.{remains_at}
 use Rattle.laws_engine.specs.Histories.{Abandons, Breaks, Call, Finishes, Forgets, IsCallStep}
 use Rattle.laws_engine.specs.Histories.{Leases, Stays, Told}
 use Rattle.laws_engine.specs.Openings.{goes_on}
@@ -47,6 +48,10 @@ pub record GivesAsRemembered (e : PlainEngine) (m : Machine) : Type 0 where
   pub begins : (n : ℕ) (q r : Registered) (p : PlainQuery) → slice_get m.queries n ≡ Some q
       → query_at e n ≡ Some r → remains_at e n ≡ Running p
       → (rest : List (ℕ × Row)) × (untaken m q ≡ p.answers ++ rest)
+  -- and so do those of one that broke
+  pub broken : (n : ℕ) (q : Registered) (answers : List (ℕ × Row)) (upto : ℕ)
+      → slice_get m.queries n ≡ Some q → remains_at e n ≡ Broken answers upto
+      → (rest : List (ℕ × Row)) × (untaken m q ≡ answers ++ rest)
   -- and are what waits, where nothing of the query is left to run
   pub all : (n : ℕ) (q r : Registered) (p : PlainQuery) → slice_get m.queries n ≡ Some q
       → query_at e n ≡ Some r → remains_at e n ≡ Running p → HasNothingToRun e n r p

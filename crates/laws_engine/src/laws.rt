@@ -7,10 +7,12 @@ ghost use Rattle.needed_rows.specs.Queries.{AreCaughtUp, readers_over};
 ghost use Rattle.reference.specs.Alike.{Alike};
 ghost use Rattle.laws_forgetting.specs.Partly.{PartlyAlike};
 ghost use Rattle.laws_engine.specs.Bounds.{HaveFewClosed};
-ghost use Rattle.laws_engine.specs.Engines.{Broken, GoodEngine, PlainEngine, query_at};
+ghost use Rattle.laws_engine.specs.Engines.{Broken, GoodEngine, Lease, PlainEngine, query_at};
 ghost use Rattle.laws_engine.specs.Engines.{remains_at, world_of};
+ghost use Rattle.laws_engine.specs.Orders.{LeaveOneWorld};
+ghost use Rattle.laws_engine.specs.Passing.{HasPassed};
 ghost use Rattle.laws_engine.specs.Promises.{KeepsItsPromises};
-ghost use Rattle.laws_engine.specs.Histories.{Call, LeadTo, empty};
+ghost use Rattle.laws_engine.specs.Histories.{Breaks, Call, IsCallStep, LeadTo, empty};
 ghost use Rattle.laws_engine.specs.Openings.{IsUnbroken, forgotten, goes_on, marks_by};
 ghost use Rattle.laws_engine.specs.Remembered.{GivesAsRemembered, LeadBoth};
 
@@ -58,6 +60,7 @@ pub fn forgotten_engines_answer_alike()
 /// Says that after any list of calls on the empty engine, forgetting loses no answer, whatever was
 /// forgotten and whatever broke. What waits at a running query is a prefix of its untaken answers
 /// over all that ever came. It is all of them once no operator of the query may be leased or is.
+/// What waits at a broken query is a prefix of them, too.
 ///
 /// It is as if nothing had been forgotten: the machine that receives the same accepts the same
 /// commands.
@@ -78,7 +81,36 @@ pub fn marks_are_caught_up()
 /// forgotten. It assumes that exactly the dropped queries have nothing left.
 pub fn forgotten_engines_close_few()
     ensures { (e : PlainEngine) → GoodEngine e → HaveFewClosed e.machine
-        → ((n : ℕ) (q : Registered) (answers : List (ℕ × Row)) → query_at e n ≡ Some q
-        → remains_at e n ≡ Broken answers → q.is_dropped ≡ false)
+        → ((n : ℕ) (q : Registered) (answers : List (ℕ × Row)) (upto : ℕ) → query_at e n ≡ Some q
+        → remains_at e n ≡ Broken answers upto → q.is_dropped ≡ false)
         → HaveFewClosed (forgotten e).machine }
+{}
+
+/// Says that a good engine stays good when a running query passes instants at which it has nothing
+/// to do. No turn of the query may be out. Its answers, the machine, and all other queries and
+/// turns are as they were.
+pub fn passes_keep_engines_good()
+    ensures { (e : PlainEngine) (n : ℕ) (b : ℕ) (e2 : PlainEngine) → GoodEngine e
+        → HasPassed e n b e2 → GoodEngine e2 }
+{}
+
+/// Says that a query that breaks shows its clients what it showed before. The same answers wait,
+/// and they are complete up to the same instant.
+pub fn breaks_leave_the_world()
+    ensures { (e : PlainEngine) (l : Lease) (e2 : PlainEngine) → IsCallStep e (Breaks l) e2
+        → world_of e2 ≡ world_of e }
+{}
+
+/// Says that forgetting changes of no query, broken or not, up to which instant its answers are
+/// complete.
+pub fn forgotten_engines_are_as_complete()
+    ensures { (e : PlainEngine) → (world_of (forgotten e)).upto ≡ (world_of e).upto }
+{}
+
+/// Says that the order of turns does not matter to clients. Turns of operators that might be leased
+/// go out and come back in any order. Queries pass instants at which they have nothing to do. Once
+/// no turn is out and no operator may be leased, the machine and the answers that wait are the
+/// same, whatever the order was.
+pub fn steps_leave_one_world()
+    ensures { (e : PlainEngine) → GoodEngine e → LeaveOneWorld e }
 {}

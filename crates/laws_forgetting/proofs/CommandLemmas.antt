@@ -1,5 +1,5 @@
 -- Partly alike machines stay so.
-use Rattle.std.proofs.Common.{◌≡◌, ℕ, ℤ, zero, suc, nat_abs, ◌+◌, ◌≤◌, ◌==◌, ◌&&◌, nat_le, Bool, true, false, cond, Option, Some, None, Result, Ok, Err, List, [], ◌∷◌, ◌++◌, map, drop, filter, length, refl, sym, ap, ap₂, ◌∙◌, subst, arith, append_assoc, append-nil, eqb-true, eq-eqb, true≢false}
+use Rattle.std.proofs.Common.{◌≡◌, ℕ, ℤ, zero, suc, nat_abs, ◌+◌, ◌≤◌, ◌==◌, ◌&&◌, nat_le, Bool, true, false, cond, Option, Some, None, Result, Ok, Err, List, [], ◌∷◌, ◌++◌, map, drop, filter, length, min, max, refl, sym, ap, ap₂, ◌∙◌, subst, arith, append_assoc, append-nil, eqb-true, eq-eqb, true≢false}
 use Rattle.std.specs.Prelude.{slice_get}
 use Rattle.std.specs.Option.{option_map_or}
 use Rattle.std.proofs.lemmas.Bool.{ne_eqb, eqb-false}
@@ -8,9 +8,9 @@ use Rattle.std.proofs.lemmas.List.Elements.{filter-append}
 use Rattle.values.specs.Arrivals.{AllFrom}
 use Rattle.values.specs.Window.{Element, input_of}
 use Rattle.plan.proofs.Lists.{by_test}
-use Rattle.reference.specs.Machine.{Machine, Place, Registered, Stream, answers_from, closed_answers, first_for, input_at, until_for}
-use Rattle.reference.specs.Commands.{Command, Declare, Register, Append, Heartbeat, Take, Drop, Found, after, appended, change, closed_to, declared, dropped, elements_from, first_fault, found, place_at, registered, registered_as, took}
-use Rattle.reference.specs.World.{untaken}
+use Rattle.reference.specs.Machine.{Machine, Place, Registered, Stream, answers_from, closed_answers, ends_at, first_for, input_at, until_for}
+use Rattle.reference.specs.Commands.{Command, Declare, Register, Append, Heartbeat, Take, Drop, Found, after, appended, change, closed_to, declared, dropped, elements_from, first_fault, found, most_counted, place_at, registered, registered_as, took}
+use Rattle.reference.specs.World.{begins_at, untaken}
 use Rattle.reference.specs.declared.fault.QueryFault.{QueryFault}
 use Rattle.reference.proofs.ClosedLemmas.{AreLater, IsLater, appended_later, closed_later, least_grows, pushed_later}
 use Rattle.reference.proofs.StreamLemmas.{alone}
@@ -87,6 +87,7 @@ module _ (m n m2 n2 : Machine) where
     carried : (q r : Registered) → AlikeQuery m n q r → AlikeQuery m2 n2 q r
     carried q r a = record {
       bare = a.bare;
+      counts = a.counts;
       answers = λ d more o until l.
           ap (λ is. drop q.taken (q.earlier ++ answers_from q.meaning q.first q.start until is)) (map_each (later_input m2 more q.first) (later_input m (come more) q.first) q.places (left more q.first))
           ∙ a.answers d (come more) (opened more o) until (omega (arith, l, until_later m.streams m2.streams later q.places))
@@ -135,7 +136,7 @@ module _ (passes : ℕ → Bool) (m n : Machine) (h : PartlyAlike passes m n) wh
 
   registered_same : (name : List ℕ) (f : Found) → registered_as m name f ≡ registered_as n name f
   registered_same name f =
-      ap₂ (λ ps first. record { name = name; meaning = f.meaning; nodes = f.nodes; measures = f.measures; places = ps; first = first; start = first; earlier = []; taken = 0; is_dropped = false })
+      ap₂ (λ ps first. record { name = name; meaning = f.meaning; nodes = f.nodes; measures = f.measures; places = ps; first = first; start = first; earlier = []; taken = 0; ever_taken = 0; is_dropped = false })
       (places_same f.streams) (begins_same f.streams)
 
   -- of what came nothing counts for it, or the same
@@ -153,6 +154,7 @@ module _ (passes : ℕ → Bool) (m n : Machine) (h : PartlyAlike passes m n) wh
   newest : (name : List ℕ) (f : Found) → AlikeQuery m n (registered_as m name f) (registered_as n name f)
   newest name f = record {
     bare = ap bare_query (registered_same name f);
+    counts = refl;
     answers = λ d more o until l.
         let first : ℕ = first_for m.streams (map (place_at m) f.streams) in
         ap (answers_from f.meaning first first until) (new_inputs more first f.streams)
@@ -165,13 +167,21 @@ module _ (passes : ℕ → Bool) (m n : Machine) (h : PartlyAlike passes m n) wh
       let a : AlikeQuery m n (registered_as m name f) (registered_as n name f) = newest name f in
       record {
         streams = h.streams;
-        queries = behind m n (registered m name (Ok f)) (registered n name (Ok f)) (λ q r i. record { bare = i.bare; answers = i.answers })
-            (registered_as m name f) (registered_as n name f) (record { bare = a.bare; answers = a.answers }) passes m.queries n.queries h.queries;
+        queries = behind m n (registered m name (Ok f)) (registered n name (Ok f)) (λ q r i. record { bare = i.bare; counts = i.counts; answers = i.answers })
+            (registered_as m name f) (registered_as n name f) (record { bare = a.bare; counts = a.counts; answers = a.answers }) passes m.queries n.queries h.queries;
       }
 
   registers_alike : (name source : List ℕ) (given : Option (List (ℤ × ℤ))) → PartlyAlike passes (registered m name (found m source given)) (registered n name (found n source given))
   registers_alike name source given =
       subst (λ r. PartlyAlike passes (registered m name (found m source given)) (registered n name r)) (found_same passes m n h source given) (registers name (found m source given))
+
+  -- its first instant is the same
+  begins_found : (r : Result Found QueryFault) → begins_at m r ≡ begins_at n r
+  begins_found (Ok f) = begins_same f.streams
+  begins_found (Err fault) = refl
+
+  pub begins_alike : (source : List ℕ) (given : Option (List (ℤ × ℤ))) → begins_at m (found m source given) ≡ begins_at n (found n source given)
+  begins_alike source given = begins_found (found m source given) ∙ ap (begins_at n) (found_same passes m n h source given)
 
 -- what does not see the change of a stream
 unchanged : {A : Type 0} (f : Stream → Stream) (g : Stream → A) (d : A) → ((s : Stream) → g (f s) ≡ g s) → (k i : ℕ) (ss : List Stream) → option_map_or g (slice_get (change k f ss) i) d ≡ option_map_or g (slice_get ss i) d
@@ -276,7 +286,7 @@ module _ (passes : ℕ → Bool) (m n : Machine) (h : PartlyAlike passes m n) wh
   takes_alike k limit count other same = record {
     streams = h.streams;
     queries = changed m n (after m (Take k limit) count) (after n (Take k limit) other) (took count) (took other)
-        (λ q r a. record { bare = a.bare; answers = a.answers }) passes k
+        (λ q r a. record { bare = a.bare; counts = a.counts; answers = a.answers }) passes k
         (λ q r a. record { bare = a.bare; alike = λ p. subst (λ j. AlikeQuery (after m (Take k limit) count) (after n (Take k limit) other) (took count q) (took j r)) (same p) (took_alike q r (a.alike p)) })
         m.queries n.queries h.queries;
   }
@@ -284,6 +294,7 @@ module _ (passes : ℕ → Bool) (m n : Machine) (h : PartlyAlike passes m n) wh
       took_alike : (q r : Registered) → AlikeQuery m n q r → AlikeQuery (after m (Take k limit) count) (after n (Take k limit) other) (took count q) (took count r)
       took_alike q r a = record {
         bare = a.bare;
+        counts = ap (λ (n : ℕ). min (n + count) most_counted) a.counts;
         answers = λ d more o until l. sym (drop-drop count q.taken (later_answers m q more until)) ∙ ap (drop count) (a.answers d more o until l) ∙ drop-drop count r.taken (later_answers n r more until);
       }
 
@@ -292,8 +303,8 @@ module _ (passes : ℕ → Bool) (m n : Machine) (h : PartlyAlike passes m n) wh
   drops_alike k = record {
     streams = h.streams;
     queries = changed m n (after m (Drop k) 0) (after n (Drop k) 0) dropped dropped
-        (λ q r a. record { bare = a.bare; answers = a.answers }) passes k
-        (λ q r a. record { bare = ap dropped a.bare; alike = λ p. record { bare = ap dropped a.bare; answers = λ d more o until l. absurd (true≢false d) } })
+        (λ q r a. record { bare = a.bare; counts = a.counts; answers = a.answers }) passes k
+        (λ q r a. record { bare = ap dropped a.bare; alike = λ p. record { bare = ap dropped a.bare; counts = (a.alike p).counts; answers = λ d more o until l. absurd (true≢false d) } })
         m.queries n.queries h.queries;
   }
 
@@ -327,3 +338,9 @@ module _ (passes : ℕ → Bool) (m n : Machine) (h : PartlyAlike passes m n) wh
       here : (b : Bool) → q.is_dropped ≡ b → cond q.is_dropped [] (drop q.taken (closed_answers m q)) ≡ cond r.is_dropped [] (drop r.taken (closed_answers n r))
       here true e = ap (λ b. cond b [] (drop q.taken (closed_answers m q))) e ∙ sym (ap (λ b. cond b [] (drop r.taken (closed_answers n r))) (sym dropped_same ∙ e))
       here false e = ap (λ b. cond b [] (drop q.taken (closed_answers m q))) e ∙ closed_same q r a e ∙ sym (ap (λ b. cond b [] (drop r.taken (closed_answers n r))) (sym dropped_same ∙ e))
+
+  -- and so is where a drain leaves them complete
+  pub ends_same : (q r : Registered) → AlikeQuery m n q r → ends_at m q ≡ ends_at n r
+  ends_same q r a =
+      ap (λ (u : ℕ). cond q.is_dropped 0 (max q.first u)) (untils_same m.streams n.streams h.streams q.places)
+      ∙ ap (λ (z : Registered). ends_at n z) a.bare

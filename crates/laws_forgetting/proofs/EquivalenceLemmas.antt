@@ -19,6 +19,7 @@ module _ (m n : Machine) (h : map bare m.streams ≡ map bare n.streams) where
   turned : (q r : Registered) → AlikeQuery m n q r → AlikeQuery n m r q
   turned q r a = record {
     bare = sym a.bare;
+    counts = sym a.counts;
     answers = λ d more o until l. sym (a.answers (ap (λ (z : Registered). z.is_dropped) a.bare ∙ d) more (may_come more o) until (omega (arith, l, same_until q r a)));
   }
 
@@ -32,6 +33,7 @@ module _ (m n : Machine) (h : map bare m.streams ≡ map bare n.streams) where
     joined : (q r s : Registered) → AlikeQuery m n q r → AlikeQuery n k r s → AlikeQuery m k q s
     joined q r s a b = record {
       bare = a.bare ∙ b.bare;
+      counts = a.counts ∙ b.counts;
       answers = λ d more o until l.
           a.answers d more o until l
           ∙ b.answers (sym (ap (λ (z : Registered). z.is_dropped) a.bare) ∙ d) more (λ j. subst (λ u. AllFrom u (more j)) (open_same m.streams n.streams h j) (o j)) until (omega (arith, l, same_until q r a));
@@ -68,7 +70,7 @@ partly_joined passes m n k h i = record { streams = h.streams ∙ i.streams; que
 
 -- WORLDS
 pub worlds_turned : (w v : World) → Alike w v → Alike v w
-worlds_turned w v h = record { machines = machines_turned w.machine v.machine h.machines; waiting = sym h.waiting }
+worlds_turned w v h = record { machines = machines_turned w.machine v.machine h.machines; waiting = sym h.waiting; upto = sym h.upto }
 
 pub worlds_joined : (w v u : World) → Alike w v → Alike v u → Alike w u
-worlds_joined w v u h i = record { machines = machines_joined w.machine v.machine u.machine h.machines i.machines; waiting = h.waiting ∙ i.waiting }
+worlds_joined w v u h i = record { machines = machines_joined w.machine v.machine u.machine h.machines i.machines; waiting = h.waiting ∙ i.waiting; upto = h.upto ∙ i.upto }

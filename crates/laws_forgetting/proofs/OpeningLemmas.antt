@@ -138,6 +138,7 @@ module _ (m : Machine) (q : Registered) (qs : List Registered) (keep : ℕ → E
   pub opening_alike : AlikeQuery m (record { streams = with_kept keep 0 m.streams; queries = qs }) q (restarted q next W)
   opening_alike = record {
     bare = refl;
+    counts = refl;
     answers = λ d more o u l. ⊎_elim (λ lt. early more u l lt) (λ ge. late more o u ge) (cases_lt u next) ∙ opened more u;
   }
 
@@ -237,7 +238,7 @@ module _ (m : Machine) (marks : List (Option ℕ)) (waiting : List (List (ℕ ×
 
   -- or that was dropped
   dropped_alike : (n : ℕ) (q : Registered) → q.is_dropped ≡ true → AlikeQuery m (opening m marks waiting) q (restart q (get_or marks n None) (get_or waiting n []))
-  dropped_alike n q d = record { bare = refl; answers = λ e more o until l. absurd (true≢false (sym d ∙ e)) }
+  dropped_alike n q d = record { bare = refl; counts = refl; answers = λ e more o until l. absurd (true≢false (sym d ∙ e)) }
 
   -- each of them has one
   module _ (opens : MayOpen m marks waiting) where

@@ -3,9 +3,10 @@ use Rattle.std.specs.Prelude.{ℕ, ℤ, ◌≡◌, Option, List, [], ◌∷◌, 
 use Rattle.reference.specs.Machine.{Machine}
 use Rattle.reference.specs.Commands.{Command, first_fault}
 use Rattle.reference.specs.Replies.{Reply}
+use Rattle.reference.specs.Status.{status_of}
 use Rattle.reference.specs.Steps.{IsStep}
 use Rattle.reference.specs.World.{World, Step, append_step, declare_step, drain_step, drop_step}
-use Rattle.reference.specs.World.{heartbeat_step, query_named, register_step, slopes_at}
+use Rattle.reference.specs.World.{heartbeat_step, peek_at, query_named, register_step, slopes_at}
 use Rattle.reference.specs.World.{stream_named, take_step, untaken}
 use Rattle.reference.specs.Alike.{Alike, AlikeMachines}
 
@@ -27,6 +28,8 @@ pub record AnswerAlike (w v : World) : Type 0 where
   pub drain : (rows : ℕ) → SameStep (drain_step w rows) (drain_step v rows)
   pub take : (query : ℕ) (limit : ℤ) → SameStep (take_step w query limit) (take_step v query limit)
   pub drop : (query : ℕ) → SameStep (drop_step w query) (drop_step v query)
+  pub peek : (query : ℕ) (limit : ℤ) → peek_at w query limit ≡ peek_at v query limit
+  pub status : status_of w ≡ status_of v
   pub slopes : (query : ℕ) → slopes_at w query ≡ slopes_at v query
   pub streams : (name : List ℕ) → stream_named w name ≡ stream_named v name
   pub queries : (name : List ℕ) → query_named w name ≡ query_named v name

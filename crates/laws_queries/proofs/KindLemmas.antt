@@ -31,7 +31,7 @@ range_puts side i (near.Sliding rows) = record { outs = _; is = refl }
 range_puts side i (near.Fallen rows) = record { outs = _; is = refl }
 range_puts side i (near.Met rows) = record { outs = _; is = refl }
 range_puts side i (near.Groups rows) = record { outs = _; is = refl }
-range_puts side i (near.Sorted rows) = record { outs = _; is = refl }
+range_puts side i (near.Lists lists) = record { outs = _; is = refl }
 
 slide_puts : (side : Side) (i : Item) (n : Near) → Puts kind.SlideWindow side i n
 slide_puts side i near.Nothing = record { outs = _; is = refl }
@@ -40,7 +40,7 @@ slide_puts side i (near.Sliding rows) = record { outs = _; is = refl }
 slide_puts side i (near.Fallen rows) = record { outs = _; is = refl }
 slide_puts side i (near.Met rows) = record { outs = _; is = refl }
 slide_puts side i (near.Groups rows) = record { outs = _; is = refl }
-slide_puts side i (near.Sorted rows) = record { outs = _; is = refl }
+slide_puts side i (near.Lists lists) = record { outs = _; is = refl }
 
 latest_puts : (side : Side) (i : Item) (n : Near) → Puts kind.LatestWindow side i n
 latest_puts side i near.Nothing = record { outs = _; is = refl }
@@ -49,7 +49,7 @@ latest_puts side i (near.Sliding rows) = record { outs = _; is = refl }
 latest_puts side i (near.Fallen rows) = record { outs = _; is = refl }
 latest_puts side i (near.Met rows) = record { outs = _; is = refl }
 latest_puts side i (near.Groups rows) = record { outs = _; is = refl }
-latest_puts side i (near.Sorted rows) = record { outs = _; is = refl }
+latest_puts side i (near.Lists lists) = record { outs = _; is = refl }
 
 -- the state of a window is no root's
 window_puts : (first : ℕ) (w : Told) (n : ℕ) (held : List Element) (k : Kind) (s : State) (side : Side) (i : Item) → Belongs k s → WindowStands first w n s held → Puts k side i (near_of s side i)

@@ -34,3 +34,5 @@ pub mod BeginLemmas
 pub mod StartLemmas
 pub mod NewestLemmas
 pub mod ForgetLemmas
+pub mod PassingLemmas
+pub mod StillLemmas

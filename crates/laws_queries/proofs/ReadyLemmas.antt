@@ -1,5 +1,5 @@
 -- Where no operator of a query is ready, the net is idle: the query has given all answers of the instants that are closed.
-use Rattle.std.proofs.Common.{◌≡◌, ℕ, ◌≤◌, ◌++◌, Bool, true, false, not, cond, inl, inr, ◌⊎◌, Option, Some, None, List, [], ◌∷◌, length, refl, sym, ap, ◌∙◌, arith}
+use Rattle.std.proofs.Common.{◌≡◌, ℕ, ◌-◌, ◌≤◌, ◌++◌, max, subst, Bool, true, false, not, cond, inl, inr, ◌⊎◌, Option, Some, None, List, [], ◌∷◌, length, refl, sym, ap, ◌∙◌, arith}
 use Rattle.std.specs.Option.{option_map}
 use Rattle.values.specs.Row.{Row}
 use Rattle.values.specs.Window.{Element, Window as Told}
@@ -8,6 +8,8 @@ use Rattle.column.specs.declared.batch.Side.TheVariants.{Left, Right}
 use Rattle.op_queue.specs.Entries.{Entry, RowAt, TickAt}
 use Rattle.op_queue.specs.Items.{front_of}
 use Rattle.op_queue.specs.Logs.{Closed}
+use Rattle.op_queue.specs.Paths.{Leads}
+use Rattle.op_queue.proofs.PathLemmas.{Leads-empty}
 use Rattle.to_stream.specs.Turns as root
 use Rattle.operators.specs.Operators.{PlainOperator, first_ready, front_instant, ready, ready_at, waiting}
 use Rattle.operators.specs.States.{usable}
@@ -15,12 +17,13 @@ use Rattle.operators.specs.declared.states.State.{State}
 use Rattle.operators.specs.declared.states.State.TheVariants as state
 use Rattle.plan.specs.Nodes as plan
 use Rattle.plan.specs.Nodes.{Window, Select, Join, Project, Group, Distinct, ToStream}
-use Rattle.reference.specs.Machine.{Machine, Registered, closed_answers}
-use Rattle.laws_dataflow.specs.Nets.{World, Cell, at_window, at_unary, at_join, IdleCell}
-use Rattle.laws_dataflow.specs.Plans.{below_root, world_of}
+use Rattle.reference.specs.Machine.{Machine, Registered, closed_answers, until_for}
+use Rattle.laws_dataflow.specs.Nets.{World, Cell, Planned, at_window, at_unary, at_join, IdleCell, cell_next, cell_shown}
+use Rattle.laws_dataflow.specs.Operators.{net_of}
+use Rattle.laws_dataflow.specs.Plans.{below_root, least_of, value_of, world_of}
 use Rattle.laws_dataflow.specs.Queries.{Idle}
-use Rattle.laws_dataflow.proofs.AnswerLemmas.{machine_begins, machine_complete, shaped}
-use Rattle.laws_dataflow.proofs.PlanLemmas.{Shaped}
+use Rattle.laws_dataflow.proofs.AnswerLemmas.{machine_begins, machine_complete, query_least, query_planned, shaped}
+use Rattle.laws_dataflow.proofs.IdleLemmas.{all_idle}
 use Rattle.laws_queries.specs.Runs.{Runs, RunsRoot, WindowStands}
 use Rattle.laws_queries.specs.Widths.{width_at}
 use Rattle.laws_queries.specs.Queries.{IsRunning, NoneReady, log_at, node_at, operator_at}
@@ -99,13 +102,27 @@ module _ (vs ws : List ℕ) (m : Machine) (q : Registered) (os : List PlainOpera
   pub running_begins : (rest : List (ℕ × Row)) × (closed_answers m q ≡ given ++ rest)
   running_begins = machine_begins vs m q r.stands.plan r.stands.wide r.cells r.held r.queue given r.last.operator r.good
 
-  -- AND ALL OF THEM where no operator is ready
+  two : 2 ≤ length q.nodes
+  two = (shaped vs m q r.stands.plan r.stands.wide).two
+
+  -- WHERE NO OPERATOR IS READY nothing is in any queue
+  running_idle : NoneReady m q os → Idle (below_root q.nodes) r.cells r.queue
+  running_idle none = record {
+    inner = λ k kc. runs_idle (world_of m q) (width_at ws k) (node_at q k) (operator_at os k) (log_at m q k) (r.cells k) (r.inner k kc).runs (none k (omega (arith, kc)));
+    root = root_idle (operator_at os (below_root q.nodes)) (log_at m q (below_root q.nodes)) r.held r.queue r.last.runs (none (below_root q.nodes) (omega (arith, two)));
+  }
+
+  -- so what was given is all of the answers
   pub running_complete : NoneReady m q os → given ≡ closed_answers m q
-  running_complete none =
-      let sh : Shaped (world_of m q).closed q.meaning q.nodes = shaped vs m q r.stands.plan r.stands.wide in
-      let two : 2 ≤ length q.nodes = sh.two in
-      let idle : Idle (below_root q.nodes) r.cells r.queue = record {
-        inner = λ k kc. runs_idle (world_of m q) (width_at ws k) (node_at q k) (operator_at os k) (log_at m q k) (r.cells k) (r.inner k kc).runs (none k (omega (arith, kc)));
-        root = root_idle (operator_at os (below_root q.nodes)) (log_at m q (below_root q.nodes)) r.held r.queue r.last.runs (none (below_root q.nodes) (omega (arith, two)));
-      } in
-      machine_complete vs m q r.stands.plan r.stands.wide r.cells r.held r.queue given r.last.operator idle r.good
+  running_complete none = machine_complete vs m q r.stands.plan r.stands.wide r.cells r.held r.queue given r.last.operator (running_idle none) r.good
+
+  -- and the root has come to the first instant that is not closed, or to its own first
+  pub running_reached : NoneReady m q os → r.good.root.opens ≡ max q.first (until_for m.streams q.places)
+  running_reached none =
+      let top : ℕ = below_root q.nodes - 1 in
+      let idle : Idle (below_root q.nodes) r.cells r.queue = running_idle none in
+      let planned : Planned (world_of m q) (net_of q.nodes) (below_root q.nodes) (value_of m q) (least_of m q) = query_planned vs m q r.stands.plan r.stands.wide in
+      let least : cell_next (r.cells top) ≡ least_of m q top = all_idle (world_of m q) (net_of q.nodes) (below_root q.nodes) (value_of m q) (least_of m q) r.cells planned r.good.good idle.inner top (omega (arith, two)) in
+      let edge : Leads (value_of m q top) r.good.root.whole r.good.root.opens [] (cell_shown (r.cells top)) (cell_next (r.cells top)) =
+      subst (λ z. Leads (value_of m q top) r.good.root.whole r.good.root.opens z (cell_shown (r.cells top)) (cell_next (r.cells top))) idle.root r.good.root.edge in
+      (Leads-empty edge).0 ∙ (least ∙ query_least vs m q r.stands.plan r.stands.wide)

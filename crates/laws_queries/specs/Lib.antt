@@ -12,3 +12,5 @@ pub mod Rows
 pub mod Leases
 pub mod Registrations
 pub mod Forgetting
+pub mod Passing
+pub mod PassingCells

@@ -3,6 +3,7 @@ ghost use Rattle.std.specs.Prelude.{ℕ, List};
 ghost use Rattle.reference.specs.Machine.{Machine, Registered};
 ghost use Rattle.laws_queries.specs.Forgetting.{RunsOnAtForgetting};
 ghost use Rattle.laws_queries.specs.Laws.{GivesItsAnswers};
+ghost use Rattle.laws_queries.specs.Passing.{RunsOnAtPassing};
 
 /// Says that what a running query has given is a prefix of CQL's answers for the instants that its
 /// streams' heartbeats have closed. It is all of them once none of its operators is ready.
@@ -18,4 +19,12 @@ pub fn running_queries_give_their_answers()
 pub fn forgetting_keeps_queries()
     ensures { (vs : List ℕ) (ws : List ℕ) (m : Machine) (q : Registered)
         → RunsOnAtForgetting vs ws m q }
+{}
+
+/// Says that a running query runs on when it passes instants at which it has nothing to do. It has
+/// given the same answers, its root has ticked at the last of these instants, and their ticks have
+/// left its windows' queues. Nothing may wait between its operators.
+pub fn passing_keeps_queries()
+    ensures { (vs : List ℕ) (ws : List ℕ) (m : Machine) (q : Registered)
+        → RunsOnAtPassing vs ws m q }
 {}

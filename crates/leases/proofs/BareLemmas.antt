@@ -18,7 +18,7 @@ AreBare copies registered = map query_of copies ≡ map without_earlier (map que
 -- THEY GO ON alike
 same_mark : (q : Registered) (k : PlainRemains) → mark_in (without_earlier q) k ≡ mark_in q k
 same_mark q (Running p) = refl
-same_mark q (Broken answers) = refl
+same_mark q (Broken answers upto) = refl
 same_mark q Dropped = refl
 
 same_restarts : (qs : List Registered) (ks : List PlainRemains) (ws : List (List (ℕ × Row))) → length ws ≡ length qs → all_restarted (map without_earlier qs) (marks_by (map without_earlier qs) ks) ws ≡ all_restarted qs (marks_by qs ks) ws
@@ -36,7 +36,7 @@ bare_restarts copies registered remains ws bare many =
 -- THEY HAVE their marks
 bare_markable : (q : Registered) (k : PlainRemains) → IsMarkable q k → IsMarkable (without_earlier q) k
 bare_markable q (Running p) h = h
-bare_markable q (Broken answers) h = h
+bare_markable q (Broken answers upto) h = h
 bare_markable q Dropped h = h
 
 copied_from : (copies registered : List Registration) (n : ℕ) (q : Registration) → AreBare copies registered → slice_get copies n ≡ Some q → (r : Registration) × ((slice_get registered n ≡ Some r) × (query_of q ≡ without_earlier (query_of r)))

@@ -30,7 +30,7 @@ streams_again m (n ∷ ns) = ap (λ l. n ∷ l) (streams_again m ns)
 
 module _ (m : Machine) (name : List ℕ) (plan : Plan) (places : List Place) (first : ℕ) (at : map place_of places ≡ map (place_at m) plan.streams.items) (begins : first ≡ first_for m.streams (map (place_at m) plan.streams.items)) where
   abbrev made : List machine.Place → ℕ → Registered
-  made ps n = record { name = name; meaning = resolved_of plan.meaning; nodes = nodes_of plan.nodes.items; measures = plan.measures.items; places = ps; first = n; start = n; earlier = []; taken = 0; is_dropped = false }
+  made ps n = record { name = name; meaning = resolved_of plan.meaning; nodes = nodes_of plan.nodes.items; measures = plan.measures.items; places = ps; first = n; start = n; earlier = []; taken = 0; ever_taken = 0; is_dropped = false }
 
   pub told_is : (q : Registered) → q ≡ made (map place_of places) first → q ≡ newest m name plan
   told_is q is = is ∙ ap (λ ps. made ps first) at ∙ ap (made (map (place_at m) plan.streams.items)) begins

@@ -18,11 +18,14 @@ use Rattle.run_queue.specs.Slots.{first_of}
 use Rattle.laws_engine.proofs.BackLemmas.{remains_here}
 use Rattle.laws_engine.proofs.HistoryLemmas.{step_good}
 use Rattle.laws_engine.proofs.LeaseLemmas.{lease_good}
+use Rattle.laws_engine.proofs.PassingLemmas.{pass_good}
 use Rattle.laws_engine.specs.Calls.{of_others, others}
-use Rattle.laws_engine.specs.Engines.{Broken, Dropped, GoodEngine, IsIn, Lease, PlainEngine, PlainRemains, Running, remains_at}
+use Rattle.laws_engine.specs.Engines.{Broken, Dropped, GoodEngine, IsIn, Lease, PlainEngine, PlainRemains, Running, remains_at, upto_at}
 use Rattle.laws_engine.specs.Histories as history
 use Rattle.laws_engine.specs.Histories.{ComesBack, IsCallStep}
-use Rattle.leases.specs.Drains.{HasBrokenOne, HasWanted, HaveRun, LeavesOthers, OneHasRun, OneOrMoreHaveRun, RunsFirst, RunsTurns, SomeHaveRun, as_drained}
+use Rattle.laws_engine.specs.Passing.{HasPassed}
+use Rattle.leases.specs.Drains.{HasBrokenOne, HasWanted, HaveRun, IsDone, LeavesOthers, OneHasRun, OneOrMoreHaveRun, Passed, Ran, RunsFirst, RunsTurns, SomeHaveRun, Step, as_drained}
+use Rattle.leases.specs.Passing.{OneHasPassed}
 use Rattle.leases.specs.Turns.{HasReady, IsTurnOf}
 use Rattle.leases.specs.Views.{lease_of}
 use Rattle.leases.specs.Whole.{IsWholeEngine}
@@ -32,24 +35,28 @@ use Rattle.leases.specs.declared.limits.TheConstants.{LEASE_NUMBERS, MAX_LEASES}
 pub none_run : (rows : ℕ) (e : PlainEngine) → SomeHaveRun rows e e
 none_run rows e = ([], refl)
 
--- one more goes out and comes back
-one_more : (rows : ℕ) (e1 e2 e3 e4 : PlainEngine) (turns : List Turn) (t : Turn) → HaveRun rows e1 turns e2 → IsTurnOf e2 rows t e3 → IsCallStep e3 (history.Finishes (lease_of t)) e4 → HaveRun rows e1 (turns ++ t ∷ []) e4
-one_more rows e1 e2 e3 e4 [] t ran out home = (e3, (e4, (subst (λ e. IsTurnOf e rows t e3) ran out, (home, refl))))
-one_more rows e1 e2 e3 e4 (s ∷ turns) t ran out home = (ran.0, (ran.1.0, (ran.1.1.0, (ran.1.1.1.0, one_more rows ran.1.0 e2 e3 e4 turns t ran.1.1.1.1 out home))))
+-- one more is done
+one_more : (rows : ℕ) (e1 e2 e3 : PlainEngine) (steps : List Step) (s : Step) → HaveRun rows e1 steps e2 → IsDone rows e2 s e3 → HaveRun rows e1 (steps ++ s ∷ []) e3
+one_more rows e1 e2 e3 [] s ran done = (e3, (subst (λ e. IsDone rows e s e3) ran done, refl))
+one_more rows e1 e2 e3 (r ∷ steps) s ran done = (ran.0, (ran.1.0, one_more rows ran.0 e2 e3 steps s ran.1.1 done))
 
 pub more_run : (rows : ℕ) (e1 e2 e3 : PlainEngine) → SomeHaveRun rows e1 e2 → OneHasRun rows e2 e3 → SomeHaveRun rows e1 e3
-more_run rows e1 e2 e3 ran one = (ran.0 ++ one.0 ∷ [], one_more rows e1 e2 one.1.0 e3 ran.0 one.0 ran.1 one.1.1.0 one.1.1.1)
+more_run rows e1 e2 e3 ran one = (ran.0 ++ one.0 ∷ [], one_more rows e1 e2 e3 ran.0 one.0 ran.1 one.1)
 
--- and some more do
-some_more : (rows : ℕ) (e1 e2 e3 : PlainEngine) (turns later : List Turn) → HaveRun rows e1 turns e2 → HaveRun rows e2 later e3 → HaveRun rows e1 (turns ++ later) e3
+-- and some more are
+some_more : (rows : ℕ) (e1 e2 e3 : PlainEngine) (steps later : List Step) → HaveRun rows e1 steps e2 → HaveRun rows e2 later e3 → HaveRun rows e1 (steps ++ later) e3
 some_more rows e1 e2 e3 [] later ran next = subst (λ e. HaveRun rows e later e3) ran next
-some_more rows e1 e2 e3 (t ∷ turns) later ran next = (ran.0, (ran.1.0, (ran.1.1.0, (ran.1.1.1.0, some_more rows ran.1.0 e2 e3 turns later ran.1.1.1.1 next))))
+some_more rows e1 e2 e3 (s ∷ steps) later ran next = (ran.0, (ran.1.0, some_more rows ran.0 e2 e3 steps later ran.1.1 next))
 
 pub run_on : (rows : ℕ) (e1 e2 e3 : PlainEngine) → SomeHaveRun rows e1 e2 → SomeHaveRun rows e2 e3 → SomeHaveRun rows e1 e3
 run_on rows e1 e2 e3 ran next = (ran.0 ++ next.0, some_more rows e1 e2 e3 ran.0 next.0 ran.1 next.1)
 
 pub run_more : (rows : ℕ) (e1 e2 e3 : PlainEngine) → SomeHaveRun rows e1 e2 → OneOrMoreHaveRun rows e2 e3 → SomeHaveRun rows e1 e3
 run_more rows e1 e2 e3 ran next = more_run rows e1 next.0 e3 (run_on rows e1 e2 next.0 ran next.1.0) next.1.1
+
+-- a query passes
+pub pass_runs : (rows : ℕ) (e1 e2 : PlainEngine) → OneHasPassed e1 e2 → OneOrMoreHaveRun rows e1 e2
+pass_runs rows e1 e2 h = (e1, (([], refl), (Passed h.0 h.1.0, h.1.1)))
 
 -- AN ERROR that is handed on
 pub same_err : {A E : Type 0} (r : Result A E) (e : E) (Q : Result A E → Type 0) → IsErrAnd r (λ f. f ≡ e) → Q (Err e) → Q r
@@ -168,17 +175,21 @@ comes_queries e1 e2 l q p p2 (inl h) = ap (λ e. e.queries) h.1
 comes_queries e1 e2 l q p p2 (inr h) = ap (λ e. e.queries) h.1
 
 -- it took a number
+done_counts : (e1 e2 : PlainEngine) (rows : ℕ) (s : Step) → IsDone rows e1 s e2 → e2.next ≡ e1.next + 1
+done_counts e1 e2 rows (Ran t) one =
+    let home = one.1.1 in
+    comes_next one.0 e2 (lease_of t) home.1.0 home.1.1.0 home.1.1.1.0 home.1.1.1.1 ∙ ap (λ e. e.next) one.1.0.after
+done_counts e1 e2 rows (Passed n b) one = ap (λ e. e.next) one.is
+
 pub step_counts : (e1 e2 : PlainEngine) (rows : ℕ) → OneHasRun rows e1 e2 → e2.next ≡ e1.next + 1
-step_counts e1 e2 rows one =
-    let home = one.1.1.1 in
-    comes_next one.1.0 e2 (lease_of one.0) home.1.0 home.1.1.0 home.1.1.1.0 home.1.1.1.1 ∙ ap (λ e. e.next) one.1.1.0.after
+step_counts e1 e2 rows one = done_counts e1 e2 rows one.0 one.1
 
 -- and so did some, if any
-pub have_given : (rows : ℕ) (turns : List Turn) (e1 e2 : PlainEngine) → HaveRun rows e1 turns e2 → e1.next ≤ e2.next
+pub have_given : (rows : ℕ) (steps : List Step) (e1 e2 : PlainEngine) → HaveRun rows e1 steps e2 → e1.next ≤ e2.next
 have_given rows [] e1 e2 ran = let same : e2.next ≡ e1.next = ap (λ e. e.next) ran in omega (arith, same)
-have_given rows (t ∷ turns) e1 e2 ran =
-    let first : ran.1.0.next ≡ e1.next + 1 = step_counts e1 ran.1.0 rows (t, (ran.0, (ran.1.1.0, ran.1.1.1.0))) in
-    let more : ran.1.0.next ≤ e2.next = have_given rows turns ran.1.0 e2 ran.1.1.1.1 in
+have_given rows (s ∷ steps) e1 e2 ran =
+    let first : ran.0.next ≡ e1.next + 1 = done_counts e1 ran.0 rows s ran.1.0 in
+    let more : ran.0.next ≤ e2.next = have_given rows steps ran.0 e2 ran.1.1 in
     omega (arith, first, more)
 
 pub steps_count : (e1 e2 : PlainEngine) (rows : ℕ) → OneOrMoreHaveRun rows e1 e2 → e1.next < e2.next
@@ -188,20 +199,20 @@ steps_count e1 e2 rows h =
     omega (arith, some, last)
 
 -- at least one did where something was ready and nothing is, and none where no number was taken
-some_since : (rows : ℕ) (turns : List Turn) (e1 e2 : PlainEngine) → HaveRun rows e1 turns e2 → HasReady e1 → first_of e2.slots ≡ None → e1.next < e2.next
+some_since : (rows : ℕ) (steps : List Step) (e1 e2 : PlainEngine) → HaveRun rows e1 steps e2 → HasReady e1 → first_of e2.slots ≡ None → e1.next < e2.next
 some_since rows [] e1 e2 ran ready none =
     let never : is_some (first_of e1.slots) ≡ false = ap (λ e. is_some (first_of e.slots)) (sym ran) ∙ ap is_some none in
     absurd (cc)
-some_since rows (t ∷ turns) e1 e2 ran ready none =
-    let first : ran.1.0.next ≡ e1.next + 1 = step_counts e1 ran.1.0 rows (t, (ran.0, (ran.1.1.0, ran.1.1.1.0))) in
-    let more : ran.1.0.next ≤ e2.next = have_given rows turns ran.1.0 e2 ran.1.1.1.1 in
+some_since rows (s ∷ steps) e1 e2 ran ready none =
+    let first : ran.0.next ≡ e1.next + 1 = done_counts e1 ran.0 rows s ran.1.0 in
+    let more : ran.0.next ≤ e2.next = have_given rows steps ran.0 e2 ran.1.1 in
     omega (arith, first, more)
 
-none_since : (rows : ℕ) (turns : List Turn) (e1 e2 : PlainEngine) → HaveRun rows e1 turns e2 → e2.next ≤ e1.next → e2 ≡ e1
+none_since : (rows : ℕ) (steps : List Step) (e1 e2 : PlainEngine) → HaveRun rows e1 steps e2 → e2.next ≤ e1.next → e2 ≡ e1
 none_since rows [] e1 e2 ran none = ran
-none_since rows (t ∷ turns) e1 e2 ran none =
-    let first : ran.1.0.next ≡ e1.next + 1 = step_counts e1 ran.1.0 rows (t, (ran.0, (ran.1.1.0, ran.1.1.1.0))) in
-    let more : ran.1.0.next ≤ e2.next = have_given rows turns ran.1.0 e2 ran.1.1.1.1 in
+none_since rows (s ∷ steps) e1 e2 ran none =
+    let first : ran.0.next ≡ e1.next + 1 = done_counts e1 ran.0 rows s ran.1.0 in
+    let more : ran.0.next ≤ e2.next = have_given rows steps ran.0 e2 ran.1.1 in
     absurd (omega (arith, first, more, none))
 
 pub looks_only : (old new : PlainEngine) (rows : ℕ) (r : Result Bool Fault) → RunsTurns old rows (as_drained r) new → new.next ≤ old.next → IfErr r (λ f. f ≡ BadLimit) → new ≡ old
@@ -231,11 +242,15 @@ wants_numbers old new rows r ran leaves none is =
     none_out new ended.1.1 (left ∙ none)
 
 -- THE MACHINE is as it was
-have_machine : (rows : ℕ) (turns : List Turn) (e1 e2 : PlainEngine) → HaveRun rows e1 turns e2 → e2.machine ≡ e1.machine
+done_machine : (rows : ℕ) (s : Step) (e1 e2 : PlainEngine) → IsDone rows e1 s e2 → e2.machine ≡ e1.machine
+done_machine rows (Ran t) e1 e2 one =
+    let home = one.1.1 in
+    comes_machine one.0 e2 (lease_of t) home.1.0 home.1.1.0 home.1.1.1.0 home.1.1.1.1 ∙ ap (λ e. e.machine) one.1.0.after
+done_machine rows (Passed n b) e1 e2 one = ap (λ e. e.machine) one.is
+
+have_machine : (rows : ℕ) (steps : List Step) (e1 e2 : PlainEngine) → HaveRun rows e1 steps e2 → e2.machine ≡ e1.machine
 have_machine rows [] e1 e2 ran = ap (λ e. e.machine) ran
-have_machine rows (t ∷ turns) e1 e2 ran =
-    let home = ran.1.1.1.0 in
-    have_machine rows turns ran.1.0 e2 ran.1.1.1.1 ∙ comes_machine ran.0 ran.1.0 (lease_of t) home.1.0 home.1.1.0 home.1.1.1.0 home.1.1.1.1 ∙ ap (λ e. e.machine) ran.1.1.0.after
+have_machine rows (s ∷ steps) e1 e2 ran = have_machine rows steps ran.0 e2 ran.1.1 ∙ done_machine rows s e1 ran.0 ran.1.0
 
 breaks_machine : (e1 e2 : PlainEngine) (l : Lease) → IsCallStep e1 (history.Breaks l) e2 → e2.machine ≡ e1.machine
 breaks_machine e1 e2 l h = ap (λ e. e.machine) h.1.1.1.1
@@ -305,35 +320,40 @@ module _ (e1 e2 : PlainEngine) (rows : ℕ) (t : Turn) (good : GoodEngine e1) (o
       record {
         query = t.node.query;
         answers = h.1.1.0.answers;
-        broken = ap (λ e. remains_at e t.node.query) h.1.1.1.1 ∙ remains_here e2 t.node.query (Broken h.1.1.0.answers) few;
+        upto = upto_at e2 t.node.query;
+        broken = ap (λ e. remains_at e t.node.query) h.1.1.1.1 ∙ remains_here e2 t.node.query (Broken h.1.1.0.answers (upto_at e2 t.node.query)) few;
         left = ap (λ e. e.leases) h.1.1.1.1 ∙ ap (λ e. of_others t.node.query e.leases) out.after ∙ last_goes e1.leases turn;
       }
 
+done_leaves : (e1 e2 : PlainEngine) (rows : ℕ) (s : Step) → GoodEngine e1 → IsDone rows e1 s e2 → e2.leases ≡ e1.leases
+done_leaves e1 e2 rows (Ran t) good one = leaves e1 one.0 rows t good one.1.0 e2 one.1.1
+done_leaves e1 e2 rows (Passed n b) good one = ap (λ e. e.leases) one.is
+
 step_leaves : (e1 e2 : PlainEngine) (rows : ℕ) → GoodEngine e1 → OneHasRun rows e1 e2 → e2.leases ≡ e1.leases
-step_leaves e1 e2 rows good one = leaves e1 one.1.0 rows one.0 good one.1.1.0 e2 one.1.1.1
+step_leaves e1 e2 rows good one = done_leaves e1 e2 rows one.0 good one.1
 
--- an engine stays good over turns, and they leave the turns of others
-one_good : (e1 e2 : PlainEngine) (rows : ℕ) → GoodEngine e1 → OneHasRun rows e1 e2 → GoodEngine e2
-one_good e1 e2 rows good one =
-    let went = one.1.1.0 in
-    let out : GoodEngine one.1.0 = subst GoodEngine (sym went.after) (lease_good e1 (lease_of one.0) went.query went.plain went.slot good went.leasable) in
-    step_good one.1.0 e2 (history.Finishes (lease_of one.0)) out one.1.1.1
+-- an engine stays good over steps, and they leave the turns of others
+one_good : (e1 e2 : PlainEngine) (rows : ℕ) (s : Step) → GoodEngine e1 → IsDone rows e1 s e2 → GoodEngine e2
+one_good e1 e2 rows (Ran t) good one =
+    let went = one.1.0 in
+    let out : GoodEngine one.0 = subst GoodEngine (sym went.after) (lease_good e1 (lease_of t) went.query went.plain went.slot good went.leasable) in
+    step_good one.0 e2 (history.Finishes (lease_of t)) out one.1.1
+one_good e1 e2 rows (Passed n b) good one = pass_good e1 n b e2 good one
 
-have_good : (rows : ℕ) (turns : List Turn) (e1 e2 : PlainEngine) → GoodEngine e1 → HaveRun rows e1 turns e2 → GoodEngine e2
+have_good : (rows : ℕ) (steps : List Step) (e1 e2 : PlainEngine) → GoodEngine e1 → HaveRun rows e1 steps e2 → GoodEngine e2
 have_good rows [] e1 e2 good ran = subst GoodEngine (sym ran) good
-have_good rows (t ∷ turns) e1 e2 good ran = have_good rows turns ran.1.0 e2 (one_good e1 ran.1.0 rows good (t, (ran.0, (ran.1.1.0, ran.1.1.1.0)))) ran.1.1.1.1
+have_good rows (s ∷ steps) e1 e2 good ran = have_good rows steps ran.0 e2 (one_good e1 ran.0 rows s good ran.1.0) ran.1.1
 
-have_left : (rows : ℕ) (turns : List Turn) (e1 e2 : PlainEngine) → GoodEngine e1 → HaveRun rows e1 turns e2 → e2.leases ≡ e1.leases
+have_left : (rows : ℕ) (steps : List Step) (e1 e2 : PlainEngine) → GoodEngine e1 → HaveRun rows e1 steps e2 → e2.leases ≡ e1.leases
 have_left rows [] e1 e2 good ran = ap (λ e. e.leases) ran
-have_left rows (t ∷ turns) e1 e2 good ran =
-    let one : OneHasRun rows e1 ran.1.0 = (t, (ran.0, (ran.1.1.0, ran.1.1.1.0))) in
-    have_left rows turns ran.1.0 e2 (one_good e1 ran.1.0 rows good one) ran.1.1.1.1 ∙ step_leaves e1 ran.1.0 rows good one
+have_left rows (s ∷ steps) e1 e2 good ran =
+    have_left rows steps ran.0 e2 (one_good e1 ran.0 rows s good ran.1.0) ran.1.1 ∙ done_leaves e1 ran.0 rows s good ran.1.0
 
 pub steps_leave : (e1 e2 : PlainEngine) (rows : ℕ) → GoodEngine e1 → OneOrMoreHaveRun rows e1 e2 → e2.leases ≡ e1.leases
 steps_leave e1 e2 rows good h = step_leaves h.0 e2 rows (have_good rows h.1.0.0 e1 h.0 good h.1.0.1) h.1.1 ∙ have_left rows h.1.0.0 e1 h.0 good h.1.0.1
 
 broken_since : (old e1 e2 : PlainEngine) → e1.leases ≡ old.leases → HasBrokenOne e1 e2 → HasBrokenOne old e2
-broken_since old e1 e2 same h = record { query = h.query; answers = h.answers; broken = h.broken; left = h.left ∙ ap (of_others h.query) same }
+broken_since old e1 e2 same h = record { query = h.query; answers = h.answers; upto = h.upto; broken = h.broken; left = h.left ∙ ap (of_others h.query) same }
 
 since : (old e1 e2 : PlainEngine) → e1.leases ≡ old.leases → (e2.leases ≡ e1.leases) ⊎ HasBrokenOne e1 e2 → LeavesOthers old (Err OutOfMemory) e2
 since old e1 e2 same (inl h) = inl (h ∙ same)
@@ -369,38 +389,49 @@ refused_leaves old e1 e2 rows HistoryFull same good h = absurd h
 refused_leaves old e1 e2 rows (Foreign entries) same good h = absurd h
 
 -- A WHOLE ENGINE stays whole when a turn went out and came back
-unbroken_set : (ks : List PlainRemains) (i n : ℕ) (p : PlainQuery) (answers : List (ℕ × Row)) → get_or (set ks i (Running p)) n Dropped ≡ Broken answers → get_or ks n Dropped ≡ Broken answers
-unbroken_set [] i n p answers h = h
-unbroken_set (k ∷ ks) zero zero p answers h = absurd (cc)
-unbroken_set (k ∷ ks) zero (suc n) p answers h = h
-unbroken_set (k ∷ ks) (suc i) zero p answers h = h
-unbroken_set (k ∷ ks) (suc i) (suc n) p answers h = unbroken_set ks i n p answers h
+unbroken_set : (ks : List PlainRemains) (i n : ℕ) (p : PlainQuery) (answers : List (ℕ × Row)) (upto : ℕ) → get_or (set ks i (Running p)) n Dropped ≡ Broken answers upto → get_or ks n Dropped ≡ Broken answers upto
+unbroken_set [] i n p answers upto h = h
+unbroken_set (k ∷ ks) zero zero p answers upto h = absurd (cc)
+unbroken_set (k ∷ ks) zero (suc n) p answers upto h = h
+unbroken_set (k ∷ ks) (suc i) zero p answers upto h = h
+unbroken_set (k ∷ ks) (suc i) (suc n) p answers upto h = unbroken_set ks i n p answers upto h
 
-module _ (e1 e2 : PlainEngine) (rows : ℕ) (whole : IsWholeEngine e1) (one : OneHasRun rows e1 e2) where
+module _ (e1 e2 : PlainEngine) (rows : ℕ) (t : Turn) (whole : IsWholeEngine e1) (one : IsDone rows e1 (Ran t) e2) where
   abbrev l : Lease
-  l = lease_of one.0
+  l = lease_of t
 
-  abbrev home : IsCallStep one.1.0 (history.Finishes l) e2
-  home = one.1.1.1
+  abbrev home : IsCallStep one.0 (history.Finishes l) e2
+  home = one.1.1
 
-  back : ComesBack one.1.0 l home.1.0 home.1.1.0 home.1.1.1.0 e2
+  back : ComesBack one.0 l home.1.0 home.1.1.0 home.1.1.1.0 e2
   back = home.1.1.1.1
 
   none_left : e2.leases ≡ []
   none_left =
-      comes_leases one.1.0 e2 l home.1.0 home.1.1.0 home.1.1.1.0 back ∙ ap (λ e. others l.number e.leases) one.1.1.0.after ∙ ap (λ ls. others l.number (ls ++ l ∷ [])) whole.returned ∙ last_left l
+      comes_leases one.0 e2 l home.1.0 home.1.1.0 home.1.1.1.0 back ∙ ap (λ e. others l.number e.leases) one.1.0.after ∙ ap (λ ls. others l.number (ls ++ l ∷ [])) whole.returned ∙ last_left l
 
-  none_broken : (n : ℕ) (answers : List (ℕ × Row)) → remains_at e2 n ≡ Broken answers → ⊥
-  none_broken n answers h =
-      let remains : e2.queries ≡ set e1.queries l.query (Running home.1.1.1.0) = comes_queries one.1.0 e2 l home.1.0 home.1.1.0 home.1.1.1.0 back ∙ ap (λ e. set e.queries l.query (Running home.1.1.1.0)) one.1.1.0.after in
-      whole.unbroken n answers (unbroken_set e1.queries l.query n home.1.1.1.0 answers (ap (λ ks. get_or ks n Dropped) (sym remains) ∙ h))
+  none_broken : (n : ℕ) (answers : List (ℕ × Row)) (upto : ℕ) → remains_at e2 n ≡ Broken answers upto → ⊥
+  none_broken n answers upto h =
+      let remains : e2.queries ≡ set e1.queries l.query (Running home.1.1.1.0) = comes_queries one.0 e2 l home.1.0 home.1.1.0 home.1.1.1.0 back ∙ ap (λ e. set e.queries l.query (Running home.1.1.1.0)) one.1.0.after in
+      whole.unbroken n answers upto (unbroken_set e1.queries l.query n home.1.1.1.0 answers upto (ap (λ ks. get_or ks n Dropped) (sym remains) ∙ h))
 
-  step_whole : IsWholeEngine e2
-  step_whole = record { returned = none_left; unbroken = none_broken }
+  turn_whole : IsWholeEngine e2
+  turn_whole = record { returned = none_left; unbroken = none_broken }
 
-have_whole : (rows : ℕ) (turns : List Turn) (e1 e2 : PlainEngine) → IsWholeEngine e1 → HaveRun rows e1 turns e2 → IsWholeEngine e2
+-- and when a query passed
+pass_whole : (e1 e2 : PlainEngine) (n b : ℕ) → IsWholeEngine e1 → HasPassed e1 n b e2 → IsWholeEngine e2
+pass_whole e1 e2 n b whole h = record {
+  returned = ap (λ e. e.leases) h.is ∙ whole.returned;
+  unbroken = λ k answers upto is. whole.unbroken k answers upto (unbroken_set e1.queries n k h.after answers upto (ap (λ e. remains_at e k) (sym h.is) ∙ is));
+}
+
+done_whole : (e1 e2 : PlainEngine) (rows : ℕ) (s : Step) → IsWholeEngine e1 → IsDone rows e1 s e2 → IsWholeEngine e2
+done_whole e1 e2 rows (Ran t) whole one = turn_whole e1 e2 rows t whole one
+done_whole e1 e2 rows (Passed n b) whole one = pass_whole e1 e2 n b whole one
+
+have_whole : (rows : ℕ) (steps : List Step) (e1 e2 : PlainEngine) → IsWholeEngine e1 → HaveRun rows e1 steps e2 → IsWholeEngine e2
 have_whole rows [] e1 e2 whole ran = subst IsWholeEngine (sym ran) whole
-have_whole rows (t ∷ turns) e1 e2 whole ran = have_whole rows turns ran.1.0 e2 (step_whole e1 ran.1.0 rows whole (t, (ran.0, (ran.1.1.0, ran.1.1.1.0)))) ran.1.1.1.1
+have_whole rows (s ∷ steps) e1 e2 whole ran = have_whole rows steps ran.0 e2 (done_whole e1 ran.0 rows s whole ran.1.0) ran.1.1
 
 pub steps_whole : (e1 e2 : PlainEngine) (rows : ℕ) → IsWholeEngine e1 → OneOrMoreHaveRun rows e1 e2 → IsWholeEngine e2
-steps_whole e1 e2 rows whole h = step_whole h.0 e2 rows (have_whole rows h.1.0.0 e1 h.0 whole h.1.0.1) h.1.1
+steps_whole e1 e2 rows whole h = done_whole h.0 e2 rows h.1.1.0 (have_whole rows h.1.0.0 e1 h.0 whole h.1.0.1) h.1.1.1

@@ -9,13 +9,14 @@ use Rattle.reference.specs.Commands as machine
 use Rattle.reference.specs.Commands.{Drop, after, change, first_fault, of_query}
 use Rattle.reference.specs.Machine.{Machine, Registered, Stream, unless_dropped}
 use Rattle.reference.specs.Named.{name_of_registered}
-use Rattle.reference.specs.World.{Step, drop_step, unless}
+use Rattle.reference.specs.World.{Step, World, drop_step, unless}
 use Rattle.reference.specs.declared.fault.Fault.{Fault}
 use Rattle.run_queue.specs.Slots.{without_query}
 use Rattle.run_queue.specs.declared.slots.Slot.{Slot}
 use Rattle.laws_engine.specs.Calls.{dropped, of_others}
-use Rattle.laws_engine.specs.Engines.{Dropped, GoodEngine, IsIn, Lease, PlainEngine, PlainRemains, answers_in, world_of}
+use Rattle.laws_engine.specs.Engines.{Dropped, GoodEngine, IsIn, Lease, PlainEngine, PlainRemains, answers_in, upto_by, world_of}
 use Rattle.laws_engine.proofs.SlotLemmas.{in_filter}
+use Rattle.laws_engine.proofs.UptoLemmas.{upto_dropped}
 use Rattle.leases.specs.Sound.{is_gone}
 use Rattle.leases.specs.Views.{engine_of, lease_of, query_of, remains_of}
 use Rattle.turn.specs.declared.turns.Turn.{Turn}
@@ -106,15 +107,22 @@ waiting_dropped (k ∷ ks) zero = refl
 waiting_dropped (k ∷ ks) (suc n) = ap (λ z. answers_in k ∷ z) (waiting_dropped ks n)
 
 -- THE STEP of the machine
+abbrev without : PlainEngine → ℕ → World
+without e n = record {
+  machine = after e.machine (Drop n) 0;
+  waiting = change n (λ rows. []) (map answers_in e.queries);
+  upto = change n (λ end. 0) (upto_by e.machine.queries e.queries);
+}
+
 pub drops : (e : PlainEngine) (n : ℕ) → first_fault e.machine (Drop n) ≡ None → drop_step (world_of e) n ≡ (Ok tt, world_of (dropped e n))
 unfolding drop_step
 drops e n h =
-    let new : List (List (ℕ × Row)) → Step (Unit {0}) = λ z. (Ok tt, record { machine = after e.machine (Drop n) 0; waiting = z }) in
-    ap (λ z. unless z (world_of e) tt (record { machine = after e.machine (Drop n) 0; waiting = change n (λ rows. []) (map answers_in e.queries) })) h ∙ ap new (sym (waiting_dropped e.queries n))
+    let new : List (List (ℕ × Row)) → List ℕ → Step (Unit {0}) = λ z u. (Ok tt, record { machine = after e.machine (Drop n) 0; waiting = z; upto = u }) in
+    ap (λ z. unless z (world_of e) tt (without e n)) h ∙ ap₂ new (sym (waiting_dropped e.queries n)) (sym (upto_dropped n e.machine.queries e.queries))
 
 pub refused : (e : PlainEngine) (n : ℕ) (f : Fault) → first_fault e.machine (Drop n) ≡ Some f → drop_step (world_of e) n ≡ (Err f, world_of e)
 unfolding drop_step
-refused e n f h = ap (λ z. unless z (world_of e) tt (record { machine = after e.machine (Drop n) 0; waiting = change n (λ rows. []) (map answers_in e.queries) })) h
+refused e n f h = ap (λ z. unless z (world_of e) tt (without e n)) h
 
 -- THE ENGINE of the code's lists
 module _ (streams : List Stream) (rs : List Registration) (ks : List Remains) (gs gs2 : List Turn) (next : ℕ) (slots slots2 : List Slot) (n : ℕ)

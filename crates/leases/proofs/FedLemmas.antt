@@ -44,7 +44,7 @@ StartAt t (Put es) = StartsAt t es
 StartAt t (Answered rows) = Unit {0}
 
 root_starts : (i : Item) (n : Near) → StartAt (item_instant i) (root_outs i n)
-root_starts i (near.Sorted rows) = tt
+root_starts i (near.Lists lists) = tt
 root_starts i n = tt
 
 pub outs_start : (k : Kind) (s : State) (side : Side) (i : Item) → StartAt (item_instant i) (outs_at k side i (near_of s side i))

@@ -20,7 +20,7 @@ use Rattle.query_runtime.specs.Turns.{HasPut, wire_at}
 use Rattle.run_queue.specs.declared.slots.Slot.{Slot}
 use Rattle.laws_engine.specs.Bounds.{HaveFewClosed}
 use Rattle.laws_engine.specs.Calls.{answered, broken, finished, given_back, of_others, others}
-use Rattle.laws_engine.specs.Engines.{Broken, Dropped, GoodEngine, IsIn, IsLease, Lease, PlainEngine, Running, remains_at}
+use Rattle.laws_engine.specs.Engines.{Broken, Dropped, GoodEngine, IsIn, IsLease, Lease, PlainEngine, Running, remains_at, upto_at}
 use Rattle.laws_engine.specs.Histories.{ComesBack}
 use Rattle.laws_engine.proofs.BackLemmas.{remains_here, remains_there, same_plain}
 use Rattle.laws_engine.proofs.FinishLemmas.{answer_good, finish_good}
@@ -124,9 +124,9 @@ module _ (old new : State) (ls : List Lease) (slots : List Slot) (d : Lease) (q 
   kinds_broken g i p3 running = by_test (g.node.query == d.query)
       (λ t.
       let same : g.node.query ≡ d.query = eqb-true g.node.query d.query t in
-      let bad : Broken p.answers ≡ Running p3 = sym (remains_here e d.query (Broken p.answers) within) ∙ ap (remains_at (broken e d.query p)) (sym same) ∙ running in
+      let bad : Broken p.answers (upto_at e d.query) ≡ Running p3 = sym (remains_here e d.query (Broken p.answers (upto_at e d.query)) within) ∙ ap (remains_at (broken e d.query p)) (sym same) ∙ running in
       absurd (cc))
-      (λ f. s.kinds g i p3 (sym (remains_there e d.query g.node.query (Broken p.answers) (λ z. absurd (let h : (g.node.query == d.query) ≡ true = eq-eqb g.node.query d.query z in cc))) ∙ running))
+      (λ f. s.kinds g i p3 (sym (remains_there e d.query g.node.query (Broken p.answers (upto_at e d.query)) (λ z. absurd (let h : (g.node.query == d.query) ≡ true = eq-eqb g.node.query d.query z in cc))) ∙ running))
 
   pub sound_broken : Forgets d.query old new → length (of_others d.query ls) ≤ length (engine_in old).leases → engine_in new ≡ broken e d.query p → IsSound new
   sound_broken f few is =
@@ -134,12 +134,12 @@ module _ (old new : State) (ls : List Lease) (slots : List Slot) (d : Lease) (q 
         machine = refl;
         next = refl;
         few = few;
-        gone = map-set_same is_gone e.queries d.query (Broken p.answers) Dropped (sym running_gone);
+        gone = map-set_same is_gone e.queries d.query (Broken p.answers (upto_at e d.query)) Dropped (sym running_gone);
       } in
       let readers : new.readers.items ≡ readers_of (engine_in new) =
       f.readers ∙ ap (λ rs. filter (λ (r : Reader). not (r.query == d.query)) rs) s.readers
       ∙ readers_left d.query 0 d.query e.machine.queries (map runs e.queries) (omega arith)
-      ∙ ap (readers_from 0 e.machine.queries) (sym (map-set runs e.queries d.query (Broken p.answers))) ∙ ap readers_of (sym is) in
+      ∙ ap (readers_from 0 e.machine.queries) (sym (map-set runs e.queries d.query (Broken p.answers (upto_at e d.query)))) ∙ ap readers_of (sym is) in
       sound_from old new s f.undropped readers f.leases (subst GoodEngine (sym is) (break_good e d.query q p good out.of.registered out.of.running)) (subst (StaysBut (engine_in old)) (sym is) stays)
       (λ g i. subst (λ z. HasKind z g) (sym is) (kinds_broken g i))
 

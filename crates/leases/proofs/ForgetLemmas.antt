@@ -92,10 +92,9 @@ forgotten_sound s t h closed is leases next undropped readers =
 
 -- few rows were answered before the starts of its queries, since a broken one was not dropped
 pub forgotten_closed : (s : State) → IsSound s → HaveFewClosed (forgotten (engine_in s)).machine
-forgotten_closed s h = forgotten_few (engine_in s) h.good h.closed (λ n q answers here left. gone_at (engine_in s).machine.queries (engine_in s).queries h.gone n q here ∙ ap is_gone left)
+forgotten_closed s h = forgotten_few (engine_in s) h.good h.closed (λ n q answers upto here left. gone_at (engine_in s).machine.queries (engine_in s).queries h.gone n q here ∙ ap is_gone left)
 
 -- WITH THE ROWS THAT STAY, and the queries as they go on, it is what is left of the engine
-pub forgets : (s : State) (streams : List Stream) (registered : List Registration) (ws : List (List (ℕ × Row))) → streams ≡ with_kept (needs_in (engine_in s)) 0 s.streams → map query_of registered ≡ restarted_by s.registered.items s.remains.items ws
-    → ws ≡ earlier_in s.remains.items → engine_of streams registered s.remains.items s.leases.items s.next s.slots ≡ forgotten (engine_in s)
-forgets s streams registered ws a b c =
-    ap₂ (λ (x : List Stream) (y : List Registered). record (engine_in s) { machine = record { streams = x; queries = y } }) a (b ∙ ap (restarted_by s.registered.items s.remains.items) c)
+pub forgets : (s : State) (streams : List Stream) (registered : List Registration) → streams ≡ with_kept (needs_in (engine_in s)) 0 s.streams → map query_of registered ≡ restarted_by s.registered.items s.remains.items (earlier_in s.remains.items)
+    → engine_of streams registered s.remains.items s.leases.items s.next s.slots ≡ forgotten (engine_in s)
+forgets s streams registered a b = ap₂ (λ (x : List Stream) (y : List Registered). record (engine_in s) { machine = record { streams = x; queries = y } }) a b

@@ -16,10 +16,10 @@ use Rattle.query_runtime.specs.Runs.{HasRun, HasRunItem, IsRunItem}
 use Rattle.query_runtime.specs.Turns.{log_of}
 use Rattle.run_queue.specs.Slots.{first_of, without_query}
 use Rattle.run_queue.specs.declared.slots.Slot.{Slot}
-use Rattle.laws_engine.specs.Calls.{broken, of_others}
-use Rattle.laws_engine.specs.Engines.{Broken, Dropped, GoodEngine, PlainEngine, PlainRemains, Running, remains_at}
+use Rattle.laws_engine.specs.Calls.{broken, broken_at, of_others}
+use Rattle.laws_engine.specs.Engines.{Broken, Dropped, GoodEngine, PlainEngine, PlainRemains, Running, remains_at, upto_at}
 use Rattle.laws_engine.proofs.BackLemmas.{remains_here, same_plain}
-use Rattle.leases.specs.Applied.{Forgets, GivesNothing, HasTaken, HasTakenIn, HasTold, IsAbove, IsBroken, MayTell, with_remains}
+use Rattle.leases.specs.Applied.{Forgets, GivesNothing, HasTaken, HasTakenIn, HasTold, IsAbove, IsBroken, IsBrokenAt, MayTell, with_remains}
 use Rattle.leases.specs.Asked.{HasOperatorAt, IsRunningAt}
 use Rattle.leases.specs.Drains.{HasWanted, OneHasRun}
 use Rattle.leases.specs.Leasing.{IsTurnOn}
@@ -149,16 +149,17 @@ module _ (old : State) (s : Slot) (rows : ℕ) (sound : IsSound old) (first : fi
     w_made : IsTurnOn (engine_in old) s rows w
     w_made = made left.1.0.held.0 left.1.0.held.1
 
-    module _ (new : State) (broke : IsBroken (engine_in (given m old.next)) s.query (engine_in new)) where
-      queries : set (set (engine_in old).queries s.query (Running left.0)) s.query (Broken left.0.answers) ≡ set (engine_in old).queries s.query (Broken p.answers)
-      queries = set-set (engine_in old).queries s.query (Running left.0) (Broken left.0.answers) ∙ ap (λ z. set (engine_in old).queries s.query (Broken z)) left.1.0.answers
+    module _ (upto : ℕ) (reached : upto ≡ upto_at (engine_in old) s.query) (new : State) (broke : IsBrokenAt (engine_in (given m old.next)) s.query upto (engine_in new)) where
+      queries : set (set (engine_in old).queries s.query (Running left.0)) s.query (Broken left.0.answers upto) ≡ set (engine_in old).queries s.query (Broken p.answers upto)
+      queries = set-set (engine_in old).queries s.query (Running left.0) (Broken left.0.answers upto) ∙ ap (λ z. set (engine_in old).queries s.query (Broken z upto)) left.1.0.answers
 
       breaks : IsBroken (engine_in (counted old)) s.query (engine_in new)
       breaks p1 is =
           let same : p ≡ p1 = same_plain (sym running ∙ is) in
           broke left.0 here
-          ∙ ap (λ (e : PlainEngine). broken (record e { next = old.next + 1 }) s.query left.0) left.1.1
+          ∙ ap (λ (e : PlainEngine). broken_at (record e { next = old.next + 1 }) s.query left.0 upto) left.1.1
           ∙ ap (λ (qs : List PlainRemains). record (engine_in (counted old)) { queries = qs; leases = of_others s.query (engine_in old).leases; slots = without_query s.query old.slots }) queries
+          ∙ ap (broken_at (engine_in (counted old)) s.query p) reached
           ∙ ap (broken (engine_in (counted old)) s.query) same
 
       pub wanted_within : HasWanted rows (engine_in old) (engine_in new)

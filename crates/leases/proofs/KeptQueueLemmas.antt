@@ -39,7 +39,7 @@ module _ (e : PlainEngine) (g : GoodEngine e) where
   queue_left : (n : ℕ) (q : Registered) (m : Option ℕ) (w : List (ℕ × Row)) (remains : PlainRemains) → query_at e n ≡ Some q → remains_at e n ≡ remains → (k : ℕ) (side : Side)
       → queue_in (forgotten e).machine (restart q m w) remains k side ≡ queue_in e.machine q remains k side
   queue_left n q m w (Running p) r h k side = running_left n q p r h k side
-  queue_left n q m w (Broken answers) r h k side = refl
+  queue_left n q m w (Broken answers upto) r h k side = refl
   queue_left n q m w Dropped r h k side = refl
 
   queue_found : (n : ℕ) (m : Option ℕ) (w : List (ℕ × Row)) (found : Option Registered) → query_at e n ≡ found → (k : ℕ) (side : Side)

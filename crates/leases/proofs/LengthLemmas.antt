@@ -18,6 +18,7 @@ use Rattle.leases.specs.Looks.{lengths_from, lengths_in, noughts_of}
 use Rattle.leases.specs.Shown.{engine_in}
 use Rattle.leases.specs.Sound.{IsSound}
 use Rattle.leases.specs.Views.{query_of, remains_of}
+use Rattle.leases.specs.declared.reach.Reach.{Reach}
 use Rattle.leases.specs.declared.remains.Remains.{Remains}
 use Rattle.leases.specs.declared.remains.Remains.TheVariants as code
 use Rattle.leases.specs.declared.registered.Registration.{Registration}
@@ -71,12 +72,12 @@ lengths_are view (Ok v) s n r x p sound accepted is_registered is_remains runs h
 lengths_are view (Err f) s n r x p sound accepted is_registered is_remains runs h = tt
 
 -- IN THOSE OF A BROKEN QUERY nothing does
-pub noughts_are : {A E : Type 0} (view : A → List ℕ) (found : Result A E) (s : State) (n : ℕ) (r : Registration) (x : Remains) (answers : List (ℕ × Row)) → IsSound s → first_fault (engine_in s).machine (Drop n) ≡ None → r ≡ get_or s.registered.items n r
-    → x ≡ get_or s.remains.items n x → x ≡ code.Broken answers → IfOk found (λ v. view v ≡ noughts_of (nodes_of (arc_value r.plan).nodes.items))
+pub noughts_are : {A E : Type 0} (view : A → List ℕ) (found : Result A E) (s : State) (n : ℕ) (r : Registration) (x : Remains) (answers : List (ℕ × Row)) (reach : Reach) → IsSound s → first_fault (engine_in s).machine (Drop n) ≡ None → r ≡ get_or s.registered.items n r
+    → x ≡ get_or s.remains.items n x → x ≡ code.Broken answers reach → IfOk found (λ v. view v ≡ noughts_of (nodes_of (arc_value r.plan).nodes.items))
     → IfOk found (λ v. (q : Registered) → query_at (engine_in s) n ≡ Some q → view v ≡ lengths_in (engine_in s).machine q (remains_at (engine_in s) n))
-noughts_are view (Ok v) s n r x answers sound accepted is_registered is_remains broke h = λ q at.
+noughts_are view (Ok v) s n r x answers reach sound accepted is_registered is_remains broke h = λ q at.
     let takes : first_fault (engine_in s).machine (Take n (pos 1)) ≡ None = take_too (machine.query_at (engine_in s).machine n) accepted in
     let same_query : q ≡ query_of r = taken_at s n q r (registered_within s n (pos 1) takes) at is_registered in
-    let broken : remains_at (engine_in s) n ≡ remains_of (code.Broken answers) = remains_is s n x (remains_within s n (pos 1) sound takes) is_remains ∙ ap remains_of broke in
+    let broken : remains_at (engine_in s) n ≡ remains_of (code.Broken answers reach) = remains_is s n x (remains_within s n (pos 1) sound takes) is_remains ∙ ap remains_of broke in
     h ∙ ap (λ z. noughts_of z.nodes) (sym same_query) ∙ sym (ap (lengths_in (engine_in s).machine q) broken)
-noughts_are view (Err f) s n r x answers sound accepted is_registered is_remains broke h = tt
+noughts_are view (Err f) s n r x answers reach sound accepted is_registered is_remains broke h = tt

@@ -97,7 +97,7 @@ module _ (e : PlainEngine) (s : ℕ) (at : ℤ) (g : GoodEngine e) (h : IsHeartb
       (sym (get_or_past p.operators k no_operator (omega (arith, l, (goes_at e s at g h n q p r remains).runs.runs.many))))
       (none_waits side (log_at e.machine q k) (log_at (closed_over e s at).machine q k))))
       (cases_lt k (length q.nodes))
-  remains_gains n k side q (Broken answers) r remains = refl
+  remains_gains n k side q (Broken answers upto) r remains = refl
   remains_gains n k side q Dropped r remains = refl
 
   found_gains : (n k : ℕ) (side : Side) (o : Option Registered) → query_at e n ≡ o

@@ -16,6 +16,9 @@ mod ReaderLemmas
 mod ListedLemmas
 mod StandLemmas
 mod BeatLemmas
+mod EachLemmas
+mod PassedLemmas
+mod PassLemmas
 mod LengthenLemmas
 pub mod DrainLemmas
 mod MachineLemmas
@@ -24,8 +27,10 @@ mod StepLemmas
 mod InPlaceLemmas
 mod ToldLemmas
 mod StaysLemmas
+mod LastLemmas
 mod FedLemmas
 mod TurnsLemmas
+pub mod StatusLemmas
 pub mod WorldLemmas
 pub mod WholeLemmas
 mod NumberLemmas

@@ -24,7 +24,7 @@ module _ (e : PlainEngine) (s : ℕ) (rows : List (ℤ × List (Option ℤ))) (a
   queue_left : (q : Registered) (remains : PlainRemains) (k : ℕ) (side : Side) → queue_in (after e.machine (Append s rows) 0) q remains k side ≡ queue_in e.machine q remains k side
   queue_left q (Running p) k side =
       ap (λ log. waiting (operator_at p.operators k) log side) (append_logs e.machine s rows accepted (source_of q (node_at q k)))
-  queue_left q (Broken answers) k side = refl
+  queue_left q (Broken answers upto) k side = refl
   queue_left q Dropped k side = refl
 
   queue_found : (found : Option Registered) (remains : PlainRemains) (k : ℕ) (side : Side)

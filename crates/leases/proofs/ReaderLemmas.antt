@@ -106,7 +106,7 @@ rests_running : (streams : List Stream) (k : ℕ) (remains : PlainRemains) → i
 rests_running streams k (Running p) h = by_test (nat_lt k (length p.operators))
     (λ t. (p, (refl, ltb-true k (length p.operators) t)))
     (λ f. let bad : false ≡ true = rw f at h in absurd (cc))
-rests_running streams k (Broken answers) h = absurd (cc)
+rests_running streams k (Broken answers upto) h = absurd (cc)
 rests_running streams k Dropped h = absurd (cc)
 
 pub resting_asked : (e : PlainEngine) → GoodEngine e → (n k : ℕ) → is_idle_at e n k ≡ true → HasOperatorAt e n k

@@ -1,5 +1,5 @@
 -- The queries of the code go on from their marks, one after the other.
-use Rattle.std.proofs.Common.{◌≡◌, ◌<◌, ◌≤◌, ℕ, zero, suc, Option, Some, List, [], ◌∷◌, drop, get_or, length, map, set, refl, sym, ap, ◌∙◌, subst, arith}
+use Rattle.std.proofs.Common.{◌≡◌, ◌<◌, ◌≤◌, ℕ, zero, suc, Option, Some, List, [], ◌∷◌, get_or, length, map, set, refl, sym, ap, ◌∙◌, subst, arith}
 use Rattle.std.specs.Prelude.{slice_get}
 use Rattle.std.specs.Option.{option_map}
 use Rattle.std.proofs.lemmas.List.{length-map}
@@ -7,7 +7,7 @@ use Rattle.std.proofs.lemmas.Option.{slice_get-get_or, slice_get-map}
 use Rattle.values.specs.Row.{Row}
 use Rattle.reference.specs.Commands.{change}
 use Rattle.reference.specs.Machine.{Registered}
-use Rattle.reference.specs.Opening.{restart}
+use Rattle.reference.specs.Opening.{all_restarted, restart}
 use Rattle.laws_engine.specs.Engines.{PlainRemains, answers_in}
 use Rattle.laws_engine.specs.Openings.{mark_in, marks_by}
 use Rattle.leases.specs.Forgets.{AreMarkable, IsMarkable, earlier_in, restarted_by}
@@ -48,58 +48,37 @@ changed f [] n r d h = refl
 changed f (x ∷ rs) zero r d h = ap (λ z. z ∷ map query_of rs) h
 changed f (x ∷ rs) (suc n) r d h = ap (λ z. query_of x ∷ z) (changed f rs n r d h)
 
--- how far it has come: of what there was, with these remains and answers that wait, the first i go on, and the rest is left
-pub record IsRestarting (old : List Registration) (ks : List Remains) (ws : List (List (ℕ × Row))) (i : ℕ) (now : List Registration) (rest : List (List (ℕ × Row))) : Type 0 where
-  pub first : map query_of now ≡ restarted_first (map query_of old) (marks_by (map query_of old) (map remains_of ks)) ws i
-  pub within : i ≤ length ws
-  pub left : drop i ws ≡ rest
+-- how far it has come: of what there was, with these remains, the first i go on
+pub record IsRestarting (old : List Registration) (ks : List Remains) (i : ℕ) (now : List Registration) : Type 0 where
+  pub first : map query_of now ≡ restarted_first (map query_of old) (marks_by (map query_of old) (map remains_of ks)) (earlier_in ks) i
+  pub within : i ≤ length ks
 
-pub restarts_none : (old : List Registration) (ks : List Remains) (ws : List (List (ℕ × Row))) (i : ℕ) (rest : List (List (ℕ × Row))) → i ≡ 0 → rest ≡ ws → IsRestarting old ks ws i old rest
-restarts_none old ks ws i rest z e = record {
-  first = sym (ap (restarted_first (map query_of old) (marks_by (map query_of old) (map remains_of ks)) ws) z ∙ restarted_none (map query_of old) (marks_by (map query_of old) (map remains_of ks)) ws);
-  within = omega (arith, z);
-  left = ap (λ n. drop n ws) z ∙ sym e;
+pub restarts_none : (old : List Registration) (ks : List Remains) → IsRestarting old ks 0 old
+restarts_none old ks = record {
+  first = sym (restarted_none (map query_of old) (marks_by (map query_of old) (map remains_of ks)) (earlier_in ks));
+  within = omega arith;
 }
 
--- what stands in front of the rest
-pub record IsFront (ws : List (List (ℕ × Row))) (i : ℕ) (w : List (ℕ × Row)) (rest : List (List (ℕ × Row))) : Type 0 where
-  pub here : slice_get ws i ≡ Some w
-  pub more : i < length ws
-  pub later : drop (suc i) ws ≡ rest
+-- what waits of the next one
+waits_here : (ks : List Remains) (i : ℕ) (k : Remains) → slice_get ks i ≡ Some k → slice_get (earlier_in ks) i ≡ Some (answers_in (remains_of k))
+waits_here ks i k h = slice_get-map answers_in (map remains_of ks) i ∙ ap (option_map answers_in) (slice_get-map remains_of ks i ∙ ap (option_map remains_of) h)
 
-front : (ws : List (List (ℕ × Row))) (i : ℕ) (w : List (ℕ × Row)) (rest : List (List (ℕ × Row))) → drop i ws ≡ w ∷ rest → IsFront ws i w rest
-front [] zero w rest e = absurd (cc)
-front [] (suc i) w rest e = absurd (cc)
-front (x ∷ ws) zero w rest e =
-    let same : x ≡ w = cc in
-    let others : ws ≡ rest = cc in
-    record { here = ap Some same; more = omega arith; later = others }
-front (x ∷ ws) (suc i) w rest e = let r = front ws i w rest e in record { here = r.here; more = omega (arith, r.more); later = r.later }
-
-none_left : (ws : List (List (ℕ × Row))) (i : ℕ) → drop i ws ≡ [] → length ws ≤ i
-none_left [] i e = omega arith
-none_left (x ∷ ws) zero e = absurd (cc)
-none_left (x ∷ ws) (suc i) e = omega (arith, none_left ws i e)
-
-module _ (old : List Registration) (ks : List Remains) (ws : List (List (ℕ × Row))) (marks : AreMarkable old ks) (many : length ws ≡ length old) (i : ℕ) (now : List Registration) (rest : List (List (ℕ × Row))) (h : IsRestarting old ks ws i now rest) where
+module _ (old : List Registration) (ks : List Remains) (marks : AreMarkable old ks) (i : ℕ) (now : List Registration) (h : IsRestarting old ks i now) where
   abbrev ms : List (Option ℕ)
   ms = marks_by (map query_of old) (map remains_of ks)
+
+  abbrev ws : List (List (ℕ × Row))
+  ws = earlier_in ks
 
   pub registered_long : length now ≡ length old
   registered_long = sym (length-map now query_of) ∙ ap (λ l. length l) h.first ∙ restarted_many (map query_of old) ms ws i ∙ length-map old query_of
 
-  module _ (w : List (ℕ × Row)) (rest2 : List (List (ℕ × Row))) (e : rest ≡ w ∷ rest2) where
-    is_front : IsFront ws i w rest2
-    is_front = front ws i w rest2 (h.left ∙ e)
-
+  module _ (more : i < length ks) where
     pub registered_more : i < length now
-    registered_more = omega (arith, is_front.more, many, registered_long)
-
-    pub remains_more : i < length ks
-    remains_more = omega (arith, is_front.more, many, marks.0)
+    registered_more = omega (arith, more, marks.0, registered_long)
 
     old_more : i < length old
-    old_more = omega (arith, is_front.more, many)
+    old_more = omega (arith, more, marks.0)
 
     -- the next one is as it was
     query_here : (d d2 : Registration) → query_of (get_or now i d) ≡ query_of (get_or old i d2)
@@ -110,35 +89,45 @@ module _ (old : List Registration) (ks : List Remains) (ws : List (List (ℕ × 
         cc
 
     pub mark_next : (d : Registration) (d2 : Remains) → IsMarkable (query_of (get_or now i d)) (remains_of (get_or ks i d2))
-    mark_next d d2 = subst (λ q. IsMarkable q (remains_of (get_or ks i d2))) (sym (query_here d d)) (marks.1 i (get_or old i d) (get_or ks i d2) (slice_get-get_or old i d old_more) (slice_get-get_or ks i d2 remains_more))
+    mark_next d d2 = subst (λ q. IsMarkable q (remains_of (get_or ks i d2))) (sym (query_here d d)) (marks.1 i (get_or old i d) (get_or ks i d2) (slice_get-get_or old i d old_more) (slice_get-get_or ks i d2 more))
 
     mark_is : (d : Registration) (d2 : Remains) → slice_get ms i ≡ Some (mark_in (query_of (get_or now i d)) (remains_of (get_or ks i d2)))
     mark_is d d2 =
         mark_here (map query_of old) (map remains_of ks) i (query_of (get_or old i d)) (remains_of (get_or ks i d2))
-        (slice_get-map query_of old i ∙ ap (option_map query_of) (slice_get-get_or old i d old_more)) (slice_get-map remains_of ks i ∙ ap (option_map remains_of) (slice_get-get_or ks i d2 remains_more))
+        (slice_get-map query_of old i ∙ ap (option_map query_of) (slice_get-get_or old i d old_more)) (slice_get-map remains_of ks i ∙ ap (option_map remains_of) (slice_get-get_or ks i d2 more))
         ∙ ap (λ q. Some (mark_in q (remains_of (get_or ks i d2)))) (sym (query_here d d))
 
-    pub restarts_next : (d : Registration) (d2 : Remains) (d3 : Registration) (m : Option ℕ) (j : ℕ) (r : Registration) (now2 : List Registration) → m ≡ mark_in (query_of (get_or now i d)) (remains_of (get_or ks i d2)) → query_of r ≡ restart (query_of (get_or now i d3)) m w → now2 ≡ set now i r
-        → j ≡ suc i → IsRestarting old ks ws j now2 rest2
-    restarts_next d d2 d3 m j r now2 is made new up = record {
-      first = ap (λ l. map query_of l) new ∙ changed (λ q. restart q m w) now i r d3 made ∙ ap (change i (λ q. restart q m w)) h.first
-          ∙ restarted_next (map query_of old) ms ws i m w (mark_is d d2 ∙ ap Some (sym is)) is_front.here ∙ ap (restarted_first (map query_of old) ms ws) (sym up);
-      within = omega (arith, up, is_front.more);
-      left = ap (λ n. drop n ws) up ∙ is_front.later;
-    }
+    pub restarts_next : (d : Registration) (d2 : Remains) (d3 : Registration) (k : Remains) (m : Option ℕ) (j : ℕ) (r : Registration) (now2 : List Registration) → k ≡ get_or ks i d2 → m ≡ mark_in (query_of (get_or now i d)) (remains_of k) → query_of r ≡ restart (query_of (get_or now i d3)) m (answers_in (remains_of k))
+        → now2 ≡ set now i r → j ≡ suc i → IsRestarting old ks j now2
+    restarts_next d d2 d3 k m j r now2 here is made new up =
+        let w : List (ℕ × Row) = answers_in (remains_of k) in
+        let at : slice_get ks i ≡ Some k = slice_get-get_or ks i d2 more ∙ ap Some (sym here) in
+        record {
+          first = ap (λ l. map query_of l) new ∙ changed (λ q. restart q m w) now i r d3 made ∙ ap (change i (λ q. restart q m w)) h.first
+              ∙ restarted_next (map query_of old) ms ws i m w (mark_is d d2 ∙ ap Some (ap (λ z. mark_in (query_of (get_or now i d)) (remains_of z)) (sym here) ∙ sym is)) (waits_here ks i k at) ∙ ap (restarted_first (map query_of old) ms ws) (sym up);
+          within = omega (arith, up, more);
+        }
 
-  pub restarts_all : rest ≡ [] → map query_of now ≡ restarted_by old ks ws
-  restarts_all e =
-      let all : length ws ≤ i = none_left ws i (h.left ∙ e) in
+  pub restarts_all : length ks ≤ i → map query_of now ≡ restarted_by old ks ws
+  restarts_all all =
       let long : length (map query_of old) ≡ length old = length-map old query_of in
-      let last : i ≡ length (map query_of old) = omega (arith, h.within, all, many, long) in
+      let last : i ≡ length (map query_of old) = omega (arith, h.within, all, marks.0, long) in
       h.first ∙ ap (restarted_first (map query_of old) ms ws) last ∙ restarted_all (map query_of old) ms ws
 
--- where no more are left
-pub no_more : (rest : List (List (ℕ × Row))) → length rest ≡ 0 → rest ≡ []
-no_more [] e = refl
-no_more (w ∷ rest) e = absurd (omega (arith, e))
-
 -- as many answers wait as there are queries
-pub as_many : (qs : List Registration) (ks : List Remains) (ws : List (List (ℕ × Row))) → AreMarkable qs ks → ws ≡ earlier_in ks → length ws ≡ length qs
-as_many qs ks ws h is = ap (λ l. length l) is ∙ length-map (map remains_of ks) answers_in ∙ length-map ks remains_of ∙ h.0
+pub as_many : (qs : List Registration) (ks : List Remains) → AreMarkable qs ks → length (earlier_in ks) ≡ length qs
+as_many qs ks h = length-map (map remains_of ks) answers_in ∙ length-map ks remains_of ∙ h.0
+
+-- what waits comes first behind that
+earlier_is : (qs : List Registered) (ks : List PlainRemains) (ws : List (List (ℕ × Row))) → length ks ≡ length qs → length ws ≡ length qs → map (λ q. q.earlier) (all_restarted qs (marks_by qs ks) ws) ≡ ws
+earlier_is [] [] [] l m = refl
+earlier_is [] ks (w ∷ ws) l m = absurd (omega (arith, m))
+earlier_is [] (k ∷ ks) [] l m = absurd (omega (arith, l))
+earlier_is (q ∷ qs) [] ws l m = absurd (omega (arith, l))
+earlier_is (q ∷ qs) (k ∷ ks) [] l m = absurd (omega (arith, m))
+earlier_is (q ∷ qs) (k ∷ ks) (w ∷ ws) l m = ap (λ z. w ∷ z) (earlier_is qs ks ws (omega (arith, l)) (omega (arith, m)))
+
+pub restarted_earlier : (qs : List Registration) (ks : List Remains) → AreMarkable qs ks → map (λ q. q.earlier) (restarted_by qs ks (earlier_in ks)) ≡ earlier_in ks
+restarted_earlier qs ks h =
+    let many : length (map query_of qs) ≡ length qs = length-map qs query_of in
+    earlier_is (map query_of qs) (map remains_of ks) (earlier_in ks) (length-map ks remains_of ∙ h.0 ∙ sym many) (as_many qs ks h ∙ sym many)

@@ -19,7 +19,7 @@ use Rattle.laws_engine.proofs.PromiseLemmas.{first_in, keeps_its_promises, slot_
 use Rattle.laws_engine.proofs.TableLemmas.{same_slot_at, same_slot_in}
 use Rattle.leases.specs.Applied.{BothStand, Forgets, GivesNothing, HasEnded, HasTakenIn, HasTold, HasWiredOperators, IsAbove, IsBroken, IsOutAsIn, IsUpdated, MayTell, with_slot, without_turn}
 use Rattle.leases.specs.Asked.{HasOperatorAt}
-use Rattle.leases.specs.Drains.{OneHasFailed, OneHasRun}
+use Rattle.leases.specs.Drains.{OneHasFailed, OneHasRun, Ran}
 use Rattle.leases.specs.Leasing.{IsTurnOn}
 use Rattle.leases.specs.Shown.{engine_in}
 use Rattle.leases.specs.Sound.{IsSound}
@@ -69,7 +69,7 @@ counted_good e g = record {
   slots = counted_slots e g.slots;
 }
 
-counted_sound : (s : State) → IsSound s → s.next < LEASE_NUMBERS → IsSound (counted s)
+pub counted_sound : (s : State) → IsSound s → s.next < LEASE_NUMBERS → IsSound (counted s)
 counted_sound s h lt = record {
   good = counted_good (engine_in s) h.good;
   kinds = h.kinds;
@@ -255,7 +255,7 @@ module _ (old : State) (s : Slot) (rows : ℕ) (t : Turn) (sound : IsSound old) 
     pub ran : (new : PlainEngine) → HasTold e2 s above new → OneHasRun rows (engine_in old) new
     ran new h =
         let home = has_come_back e1 d s.query s.operator d.number (with_next s None) above still good out steps new (ended new h) in
-        (t, (e1, (goes, (out.1.1.out, (home.0, (home.1.0, (home.1.1.0, home.1.1.1.1)))))))
+        (Ran t, (e1, (goes, (out.1.1.out, (home.0, (home.1.0, (home.1.1.0, home.1.1.1.1)))))))
 
     pub ran_sound : (new : State) → HasTold e2 s above (engine_in new) → GivesNothing (counted old) new → IsSound new
     ran_sound new h r =

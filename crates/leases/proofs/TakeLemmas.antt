@@ -25,13 +25,13 @@ use Rattle.reference.specs.declared.fault.Fault.TheVariants.{Query, BadName, Nam
 use Rattle.laws_queries.specs.Registrations.{HaveColumnNames}
 use Rattle.laws_queries.specs.Queries.{PlainQuery, operator_at}
 use Rattle.laws_engine.specs.Calls.{IsTake, remains_after, taken}
-use Rattle.laws_engine.specs.Engines.{Broken, Dropped, GoodEngine, IsIn, PlainEngine, PlainRemains, Running, answers_in, query_at, remains_at}
+use Rattle.laws_engine.specs.Engines.{Broken, Dropped, GoodEngine, IsExhausted, IsIn, PlainEngine, PlainRemains, Running, answers_in, query_at, remains_at}
 use Rattle.laws_engine.proofs.TakeLemmas.{take_good}
 use Rattle.leases.specs.Readers.{readers_from, readers_of, runs}
 use Rattle.leases.proofs.ListedLemmas.{readers_changed}
 use Rattle.leases.specs.Shown.{engine_in}
 use Rattle.leases.specs.Sound.{IsSound, is_gone}
-use Rattle.leases.specs.Takes.{HandsOut, Takes, count_in, count_of}
+use Rattle.leases.specs.Takes.{HandsOut, Peeks, ShowsFirst, Takes, count_in, count_of}
 use Rattle.leases.specs.Views.{HasKind, query_of, remains_of}
 use Rattle.turn.specs.declared.turns.Turn.{Turn}
 use Rattle.leases.specs.declared.remains.Remains.{Remains}
@@ -112,6 +112,12 @@ handed_many rows waits count h few =
     let c : length (handed (take count waits)) ≡ length (take count waits) = length-map (take count waits) _ in
     omega (arith, a, b, c, length-take count waits)
 
+pub flat_many : (rows : List (ℤ × Row)) (k : PlainRemains) (limit : ℕ) → rows ≡ handed (take (count_in k limit) (answers_in k)) → length rows ≡ count_in k limit
+flat_many rows k limit h =
+    let a : length rows ≡ length (handed (take (count_in k limit) (answers_in k))) = ap length h in
+    let c : length (handed (take (count_in k limit) (answers_in k))) ≡ length (take (count_in k limit) (answers_in k)) = length-map (take (count_in k limit) (answers_in k)) _ in
+    omega (arith, a, c, length-take (count_in k limit) (answers_in k))
+
 pub rows_many : (rows : List (ℤ × ArrayVec (Option ℤ))) (k : PlainRemains) (limit : ℕ) → handed_of rows ≡ handed (take (count_in k limit) (answers_in k)) → length rows ≡ count_in k limit
 rows_many rows k limit h = handed_many rows (answers_in k) (count_in k limit) h (omega arith)
 
@@ -158,7 +164,7 @@ took_by f count (suc n) (q ∷ qs) h = ap (λ zs. f q ∷ zs) (took_by f count n
 
 gone_after : (count : ℕ) (k : PlainRemains) → is_gone (remains_after count k) ≡ is_gone k
 gone_after count (Running p) = refl
-gone_after count (Broken answers) = refl
+gone_after count (Broken answers upto) = refl
 gone_after count Dropped = refl
 
 gone_taken : (count n : ℕ) (ks : List PlainRemains) → map is_gone (change n (remains_after count) ks) ≡ map is_gone ks
@@ -169,7 +175,7 @@ gone_taken count (suc n) (k ∷ ks) = ap (λ zs. is_gone k ∷ zs) (gone_taken c
 -- it runs as before
 runs_after : (count : ℕ) (k : PlainRemains) → runs (remains_after count k) ≡ runs k
 runs_after count (Running p) = refl
-runs_after count (Broken answers) = refl
+runs_after count (Broken answers upto) = refl
 runs_after count Dropped = refl
 
 runs_taken : (count n : ℕ) (ks : List PlainRemains) → map runs (change n (remains_after count) ks) ≡ map runs ks
@@ -188,7 +194,7 @@ ran_after count (Running before) p h = record { before = before; ran = refl; ope
   where
     running_same : {a b : PlainQuery} → Running a ≡ Running b → a ≡ b
     running_same e = cc
-ran_after count (Broken answers) p h = absurd (cc)
+ran_after count (Broken answers upto) p h = absurd (cc)
 ran_after count Dropped p h = absurd (cc)
 
 ran_at : (count n j : ℕ) (ks : List PlainRemains) (p : PlainQuery) → get_or (change n (remains_after count) ks) j Dropped ≡ Running p → Ran (get_or ks j Dropped) p
@@ -226,8 +232,8 @@ sound_taken s s2 n limit count h t is leases next undropped readers = record {
 -- A TAKE THAT IS REFUSED
 module _ {A : Type 0} (view : A → List (ℤ × Row)) (old new : PlainEngine) (n limit : ℕ) (x y : PlainRemains) (none : first_fault old.machine (Take n (pos limit)) ≡ None) (at : remains_at old n ≡ x) where
   refused_so : (f : Fault) → HandsOut view x limit (Err f) y → (y ≡ x → new ≡ old) → Takes view old n (pos limit) (Err f) new
-  refused_so OutOfMemory h same = (none, same h.0, λ broken. h.1 (sym at ∙ broken))
-  refused_so fault.Broken h same = (none, at ∙ h.0, same h.1)
+  refused_so OutOfMemory h same = (none, same h.0, λ gone. h.1 (subst IsExhausted at gone))
+  refused_so fault.Broken h same = (none, subst IsExhausted (sym at) h.0, same h.1)
   refused_so (Query z) h same = absurd h
   refused_so BadName h same = absurd h
   refused_so NameTaken h same = absurd h
@@ -295,5 +301,30 @@ handed_takes view s e2 n limit x y r r2 rows sound none is_remains is_registered
       none,
       h.0 ∙ ap (λ c. handed (take c (answers_in (remains_of x)))) count ∙ ap (λ k. handed (take (count_of (engine_in s) n (pos limit)) (answers_in k))) (sym at),
       is_taken s e2 n (pos limit) x y r r2 (count_in (remains_of x) limit) within (registered_within s n (pos limit) none) is_remains is_registered h.1 takes made ∙ ap (taken (engine_in s) n (pos limit)) count,
-      (λ b. h.2 (sym at ∙ b)),
+      (λ b. h.2 (subst IsExhausted at b)),
+    )
+
+-- A PEEK
+shown_at : {A : Type 0} (view : A → List (ℤ × Row)) (e : PlainEngine) (n limit : ℕ) (k : PlainRemains) (r : Result A Fault) → first_fault e.machine (Take n (pos limit)) ≡ None → remains_at e n ≡ k → ShowsFirst view k limit r → Peeks view e n (pos limit) r
+shown_at view e n limit k (Ok rows) none at h =
+    let count : count_in k limit ≡ count_of e n (pos limit) = ap (λ x. min limit (length (answers_in x))) (sym at) in (
+      none,
+      h.0 ∙ ap (λ c. handed (take c (answers_in k))) count ∙ ap (λ x. handed (take (count_of e n (pos limit)) (answers_in x))) (sym at),
+      refl,
+      (λ b. h.2 (subst IsExhausted at b)),
+    )
+shown_at view e n limit k (Err f) none at h = refused_so view e e n limit k k none at f h (λ same. refl)
+
+pub shown_peeks : {A : Type 0} (view : A → List (ℤ × Row)) (s : State) (n limit : ℕ) (x : Remains) (r : Result A Fault) → IsSound s → first_fault (engine_in s).machine (Take n (pos limit)) ≡ None → x ≡ get_or s.remains.items n x
+    → ShowsFirst view (remains_of x) limit r → Peeks view (engine_in s) n (pos limit) r
+shown_peeks view s n limit x r sound none is h = shown_at view (engine_in s) n limit (remains_of x) r none (remains_is s n x (remains_within s n (pos limit) sound none) is) h
+
+-- WHAT A PEEK SHOWED is what is handed out
+pub shown_hands : (s : State) (n limit : ℕ) (x : Remains) (k : PlainRemains) (rows : List (ℤ × Row)) → IsSound s → Peeks (λ r. r) (engine_in s) n (pos limit) (Ok rows) → x ≡ get_or s.remains.items n x
+    → k ≡ remains_after (count_in (remains_of x) limit) (remains_of x) → HandsOut (λ r. r) (remains_of x) limit (Ok rows) k
+shown_hands s n limit x k rows sound peeks is_remains made =
+    let at : remains_at (engine_in s) n ≡ remains_of x = remains_is s n x (remains_within s n (pos limit) sound peeks.0) is_remains in (
+      subst (λ (r : PlainRemains). rows ≡ handed (take (min limit (length (answers_in r))) (answers_in r))) at peeks.1,
+      made,
+      subst (λ (r : PlainRemains). IsExhausted r → ⊥) at peeks.3,
     )

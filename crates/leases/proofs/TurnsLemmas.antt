@@ -1,6 +1,6 @@
 -- Turns of the first slot that run one after the other, while the slots wait to be told: with these told, each is a turn of the first slot.
 use Rattle.std.proofs.Common.{◌≡◌, ◌≢◌, ◌<◌, ◌≤◌, ◌+◌, ℕ, Bool, true, false, not, cond, nat_le, ◌&&◌, ◌||◌, inl, inr, ◌⊎◌, ⊎_elim, is_none, is_some, unwrap_or, MatchOption, Option, Some, None, List, [], ◌∷◌, length, refl, sym, ap, ap₂, ◌∙◌, subst, arith, eqb-true, leb-true}
-use Rattle.std.specs.Prelude.{⊤}
+use Rattle.std.specs.Prelude.{⊤, get_or, max}
 use Rattle.std.specs.Option.{option_to_list}
 use Rattle.std.specs.Ordering.{is_gt}
 use Rattle.std.specs.declared.cmp.Ordering.TheVariants.{Less, Equal}
@@ -21,26 +21,30 @@ use Rattle.plan.proofs.Lists.{by_test}
 use Rattle.reference.specs.Machine.{Registered, Stream}
 use Rattle.reference.specs.declared.fault.Fault.TheVariants.{BadLimit, TooManyLeases}
 use Rattle.reference.specs.declared.limits.TheConstants.{MAX_TURN}
+use Rattle.reference.specs.Opening.{all_instants}
+use Rattle.laws_dataflow.specs.Queries as marks
 use Rattle.laws_queries.specs.Queries.{PlainQuery, change_at_first, log_at, operator_at}
 use Rattle.laws_queries.specs.Steps.{IsFirst, outs_at_first}
 use Rattle.query_runtime.specs.Turns.{CanPut, HasFinished, HasPut, log_of, wire_at}
 use Rattle.run_queue.specs.Slots.{changed, first_of, goes_on, slot, slot_cmp, with_next, without_query}
 use Rattle.run_queue.specs.declared.slots.Slot.{Slot}
 use Rattle.run_queue.proofs.StandLemmas.{changed_nothing}
-use Rattle.laws_engine.specs.Calls.{IsOf, broken}
-use Rattle.laws_engine.specs.Engines.{IsIn, Lease, PlainEngine, Running, is_leased, next_at, query_at, remains_at, slope_at, slot_at, slot_of}
+use Rattle.laws_engine.specs.Calls.{IsOf, broken_at}
+use Rattle.laws_engine.specs.Engines.{IsIn, Lease, PlainEngine, Running, is_leased, next_at, query_at, remains_at, slope_at, slot_at, slot_of, upto_at}
 use Rattle.laws_engine.proofs.BackLemmas.{numbered, remains_here, same_plain, same_query}
 use Rattle.laws_engine.proofs.PromiseLemmas.{first_in, is_slot, slot_is}
-use Rattle.leases.specs.Applied.{BothStand, Forgets, GivesNothing, HasTold, IsAbove, IsBroken, IsUpdated, MayTell, with_remains}
+use Rattle.leases.specs.Applied.{BothStand, Forgets, GivesNothing, HasTold, IsAbove, IsBrokenAt, IsUpdated, MayTell, with_remains}
 use Rattle.leases.specs.Asked.{HasOperatorAt, IsRunningAt}
 use Rattle.leases.specs.Drains.{HasWantedBehind, OneHasRun, OneOrMoreHaveRun, SomeHaveRun}
 use Rattle.leases.specs.Readers.{next_for, with_slots, with_update, with_updates}
-use Rattle.leases.specs.Runs.{HasRunIn, HasRunOn, HasStoppedIn, MayRunIn}
+use Rattle.leases.specs.Runs.{HasLast, HasRunIn, HasRunOn, HasStoppedIn, MayRunIn, last_of}
+use Rattle.leases.specs.Forgets.{IsMarkable}
 use Rattle.leases.specs.Shown.{engine_in}
 use Rattle.leases.specs.Sound.{IsSound}
 use Rattle.leases.specs.Told.{GoesOn, IsNoSteeper, MayTellBoth, told, told_above, told_slot, told_slots, told_state}
 use Rattle.leases.specs.Turns.{lease_fault}
 use Rattle.leases.specs.declared.limits.TheConstants.{LEASE_NUMBERS, MAX_LEASES}
+use Rattle.leases.specs.declared.registered.Registration.{Registration}
 use Rattle.leases.specs.declared.state.State.{State}
 use Rattle.leases.proofs.BeatLemmas.{next_is}
 use Rattle.leases.proofs.DrainLemmas.{more_run, none_run}
@@ -50,6 +54,8 @@ use Rattle.leases.proofs.InPlaceLemmas as one
 use Rattle.leases.proofs.InPlaceLemmas.{given, sound_as, stopped_as}
 use Rattle.leases.proofs.LeaseLemmas.{first_runs}
 use Rattle.leases.proofs.LookLemmas.{asks_on}
+use Rattle.leases.proofs.LastLemmas.{last_reaches, last_small, last_still, registration_is}
+use Rattle.leases.proofs.MarkLemmas.{has_mark}
 use Rattle.leases.proofs.StandLemmas.{stands_in}
 use Rattle.leases.proofs.StaysLemmas.{above_no_earlier, before_above, behind, comes_first, same_place}
 use Rattle.leases.proofs.StepLemmas.{both_stand, may_look_here, may_look_over}
@@ -369,6 +375,16 @@ module _ {start now : State} {s : Slot} {above : Option Slot} {rows : ℕ} {went
     leases_then : e2.leases ≡ e.leases
     leases_then = ap (λ (z : PlainEngine). z.leases) took.1.1
 
+    -- the last tick of its root is another only if it is the root's
+    last_by : (o : Option Slot) (last new : Option ℕ) → MatchOption (told_above e o) (length p.operators ≤ s.operator + 1) (λ a. (s.operator + 1 < length p.operators) × (a ≡ slot_at (engine_in t) s.query q p (wire_at p s.operator).to))
+        → HasLast e s.query last → MatchOption o (HasLast e2 s.query new) (λ a. new ≡ last) → HasLast e2 s.query new
+    last_by None last new over_it had h p0 is = h p0 is
+    last_by (Some a) last new over_it had h p0 is =
+        h ∙ had p running ∙ sym (last_still e.machine.streams p p2 turn rows took.1.0 over_it.0) ∙ ap last_of (same_plain (sym running_then ∙ is))
+
+    pub last_then : {last new : Option ℕ} → HasLast e s.query last → MatchOption above (HasLast e2 s.query new) (λ a. new ≡ last) → HasLast e2 s.query new
+    last_then {last} {new} = last_by above last new (r.over q p top.1.1.registered top.1.1.running)
+
     -- the operator above stands where it stood
     over_there : (o : Option Slot) → MatchOption (told_above e o) (length p.operators ≤ s.operator + 1) (λ a. (s.operator + 1 < length p.operators) × (a ≡ slot_at (engine_in t) s.query q p (wire_at p s.operator).to))
         → MatchOption (told_above e2 o) (length p2.operators ≤ s.operator + 1) (λ a. (s.operator + 1 < length p2.operators) × (a ≡ slot_at e2 s.query q p2 (wire_at p2 s.operator).to))
@@ -564,6 +580,23 @@ module _ {start now : State} {s : Slot} {above : Option Slot} {rows : ℕ} {went
         subst (IsRunningAt (engine_in (given m now.next))) (sym sn)
         (one.may_break t turn rows r.sound r.first r.allowed r.numbers mw stopped_told)
 
+    -- its query is as it was registered, and has its mark
+    same_machine : (engine_in m).machine ≡ e.machine
+    same_machine = ap (λ (z : PlainEngine). z.machine) (stopped_here p running).1.1
+
+    mark : IsMarkable q (Running p)
+    mark = has_mark t r.sound s.query q (Running p) top.1.1.registered running
+
+    module _ (n : ℕ) (sn : n ≡ s.query) (registration : Registration) (read : registration ≡ get_or m.registered.items n registration) (last : Option ℕ) (had : HasLast e s.query last) where
+      first_is : registration.first ≡ q.first
+      first_is = ap (λ (z : Registered). z.first) (registration_is m e n q registration same_machine (ap (query_at e) sn ∙ top.1.1.registered) read)
+
+      pub last_within : (at : ℕ) → last ≡ Some at → at + 1 ≤ max registration.first all_instants
+      last_within at told = subst (λ k. at + 1 ≤ max k all_instants) (sym first_is) (last_small e s.query q p top.1.1.registered running mark last had at told)
+
+      pub reaches : {upto : ℕ} → upto ≡ marks.behind registration.first last → upto ≡ upto_at e n
+      reaches {upto} is = is ∙ ap (λ k. marks.behind k last) first_is ∙ last_reaches e s.query q p top.1.1.registered running mark last had ∙ ap (upto_at e) (sym sn)
+
     -- with the slots of the query those that wait leave too
     slots_leave : without_query s.query m.slots ≡ without_query s.query t.slots
     slots_leave =
@@ -571,15 +604,18 @@ module _ {start now : State} {s : Slot} {above : Option Slot} {rows : ℕ} {went
         ∙ sym (told_leave (slot_of (engine_in start)) start.slots s e above listed)
         ∙ ap (λ ss. without_query s.query (with_updates e (s ∷ option_to_list above) ss)) (sym r.slots)
 
-    module _ (n : ℕ) (sn : n ≡ s.query) (new : State) (broke : IsBroken (engine_in (given m now.next)) n (engine_in new)) where
-      broke_here : IsBroken (engine_in (given m now.next)) s.query (engine_in new)
-      broke_here = subst (λ z. IsBroken (engine_in (given m now.next)) z (engine_in new)) sn broke
+    module _ (n : ℕ) (sn : n ≡ s.query) (upto : ℕ) (reached : upto ≡ upto_at e n) (new : State) (broke : IsBrokenAt (engine_in (given m now.next)) n upto (engine_in new)) where
+      broke_here : IsBrokenAt (engine_in (given m now.next)) s.query upto (engine_in new)
+      broke_here = subst (λ z. IsBrokenAt (engine_in (given m now.next)) z upto (engine_in new)) sn broke
 
-      broke_told : IsBroken (engine_in (given mw now.next)) s.query (engine_in new)
-      broke_told p0 is = broke_here p0 is ∙ ap (λ ss. record (broken (engine_in (given m now.next)) s.query p0) { slots = ss }) slots_leave
+      reached_here : upto ≡ upto_at e s.query
+      reached_here = reached ∙ ap (upto_at e) sn
+
+      broke_told : IsBrokenAt (engine_in (given mw now.next)) s.query upto (engine_in new)
+      broke_told p0 is = broke_here p0 is ∙ ap (λ ss. record (broken_at (engine_in (given m now.next)) s.query p0 upto) { slots = ss }) slots_leave
 
       pub wanted_within : HasWantedBehind rows (engine_in start) (engine_in new)
-      wanted_within = (told e s above, (r.ran, one.wanted_within t turn rows r.sound r.first r.allowed r.numbers mw stopped_told new broke_told))
+      wanted_within = (told e s above, (r.ran, one.wanted_within t turn rows r.sound r.first r.allowed r.numbers mw stopped_told upto reached_here new broke_told))
 
       pub within_next : new.next ≡ now.next + 1
       within_next = ap (λ (z : PlainEngine). z.next) (broke_here left_running.0 left_running.1)
@@ -590,5 +626,5 @@ module _ {start now : State} {s : Slot} {above : Option Slot} {rows : ℕ} {went
       pub within_sound : Forgets n (given m now.next) new → IsSound new
       within_sound forgets =
           let f = subst (λ z. Forgets z (given m now.next) new) sn forgets in
-          one.within_sound t turn rows r.sound r.first r.allowed r.numbers mw stopped_told new broke_told
+          one.within_sound t turn rows r.sound r.first r.allowed r.numbers mw stopped_told upto reached_here new broke_told
           (record { undropped = f.undropped; readers = f.readers; leases = f.leases }) (record { undropped = rest.undropped; readers = rest.readers; leases = rest.leases })

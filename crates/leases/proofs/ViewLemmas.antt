@@ -37,7 +37,7 @@ pub starts_empty : (streams : List Stream) (slots : List Slot) → streams ≡ [
 starts_empty streams slots e f = rw (e, f) refl
 
 empty_whole : IsWholeEngine empty_engine
-empty_whole = record { returned = refl; unbroken = λ n answers e. let f : Dropped ≡ Broken answers = e in absurd (cc) }
+empty_whole = record { returned = refl; unbroken = λ n answers upto e. let f : Dropped ≡ Broken answers upto = e in absurd (cc) }
 
 pub whole_at_first : (s : State) → engine_in s ≡ empty_engine → IsWhole s
 whole_at_first s e = subst IsWholeEngine (sym e) empty_whole

@@ -21,17 +21,17 @@ whole_by (Err f) old made new ok err h w = subst IsWholeEngine (sym err) w
 -- one that leaves the queries' operators and the turns as they are
 pub whole_same : {A : Type 0} (r : Result A Fault) (old made new : PlainEngine) → OnOk r (new ≡ made) → OnErr r (new ≡ old) → made.leases ≡ old.leases → made.queries ≡ old.queries → IsWholeEngine old → IsWholeEngine new
 whole_same r old made new ok err leases queries =
-    whole_by r old made new ok err (λ w. record { returned = leases ∙ w.returned; unbroken = λ n answers h. w.unbroken n answers (ap (λ ks. get_or ks n Dropped) (sym queries) ∙ h) })
+    whole_by r old made new ok err (λ w. record { returned = leases ∙ w.returned; unbroken = λ n answers upto h. w.unbroken n answers upto (ap (λ ks. get_or ks n Dropped) (sym queries) ∙ h) })
 
 -- A REGISTRATION: one more runs
-unbroken_more : (ks : List PlainRemains) (n : ℕ) (p : PlainQuery) (answers : List (ℕ × Row)) → get_or (ks ++ Running p ∷ []) n Dropped ≡ Broken answers → get_or ks n Dropped ≡ Broken answers
-unbroken_more [] zero p answers h = absurd (cc)
-unbroken_more [] (suc n) p answers h = h
-unbroken_more (k ∷ ks) zero p answers h = h
-unbroken_more (k ∷ ks) (suc n) p answers h = unbroken_more ks n p answers h
+unbroken_more : (ks : List PlainRemains) (n : ℕ) (p : PlainQuery) (answers : List (ℕ × Row)) (upto : ℕ) → get_or (ks ++ Running p ∷ []) n Dropped ≡ Broken answers upto → get_or ks n Dropped ≡ Broken answers upto
+unbroken_more [] zero p answers upto h = absurd (cc)
+unbroken_more [] (suc n) p answers upto h = h
+unbroken_more (k ∷ ks) zero p answers upto h = h
+unbroken_more (k ∷ ks) (suc n) p answers upto h = unbroken_more ks n p answers upto h
 
 registered_whole : (e : PlainEngine) (q : Registered) (p : PlainQuery) → IsWholeEngine e → IsWholeEngine (registered e q p)
-registered_whole e q p w = record { returned = w.returned; unbroken = λ n answers h. w.unbroken n answers (unbroken_more e.queries n p answers h) }
+registered_whole e q p w = record { returned = w.returned; unbroken = λ n answers upto h. w.unbroken n answers upto (unbroken_more e.queries n p answers upto h) }
 
 pub registration_whole : (r : Result ℕ Fault) (old new : PlainEngine) (name text : List ℕ) (chart : Option (List (ℤ × ℤ)))
     → OnOk r (Registers old name text chart new) → OnErr r (new ≡ old) → IsWholeEngine old → IsWholeEngine new
@@ -39,34 +39,34 @@ registration_whole (Ok a) old new name text chart ok err w = subst IsWholeEngine
 registration_whole (Err f) old new name text chart ok err w = subst IsWholeEngine (sym err) w
 
 -- A DROP
-unbroken_dropped : (ks : List PlainRemains) (i n : ℕ) (answers : List (ℕ × Row)) → get_or (change i (λ remains. Dropped) ks) n Dropped ≡ Broken answers → get_or ks n Dropped ≡ Broken answers
-unbroken_dropped [] i n answers h = h
-unbroken_dropped (k ∷ ks) zero zero answers h = absurd (cc)
-unbroken_dropped (k ∷ ks) zero (suc n) answers h = h
-unbroken_dropped (k ∷ ks) (suc i) zero answers h = h
-unbroken_dropped (k ∷ ks) (suc i) (suc n) answers h = unbroken_dropped ks i n answers h
+unbroken_dropped : (ks : List PlainRemains) (i n : ℕ) (answers : List (ℕ × Row)) (upto : ℕ) → get_or (change i (λ remains. Dropped) ks) n Dropped ≡ Broken answers upto → get_or ks n Dropped ≡ Broken answers upto
+unbroken_dropped [] i n answers upto h = h
+unbroken_dropped (k ∷ ks) zero zero answers upto h = absurd (cc)
+unbroken_dropped (k ∷ ks) zero (suc n) answers upto h = h
+unbroken_dropped (k ∷ ks) (suc i) zero answers upto h = h
+unbroken_dropped (k ∷ ks) (suc i) (suc n) answers upto h = unbroken_dropped ks i n answers upto h
 
 pub dropped_whole : (e : PlainEngine) (n : ℕ) → IsWholeEngine e → IsWholeEngine (dropped e n)
-dropped_whole e n w = record { returned = ap (of_others n) w.returned; unbroken = λ j answers h. w.unbroken j answers (unbroken_dropped e.queries n j answers h) }
+dropped_whole e n w = record { returned = ap (of_others n) w.returned; unbroken = λ j answers upto h. w.unbroken j answers upto (unbroken_dropped e.queries n j answers upto h) }
 
 -- A TAKE
 abbrev IsBrokenSo : PlainRemains → Type 0
-IsBrokenSo k = (before : List (ℕ × Row)) × (k ≡ Broken before)
+IsBrokenSo k = (before : List (ℕ × Row)) × ((upto : ℕ) × (k ≡ Broken before upto))
 
-broken_before : (count : ℕ) (k : PlainRemains) (answers : List (ℕ × Row)) → remains_after count k ≡ Broken answers → IsBrokenSo k
-broken_before count (Running p) answers h = absurd (cc)
-broken_before count (Broken before) answers h = (before, refl)
-broken_before count Dropped answers h = absurd (cc)
+broken_before : (count : ℕ) (k : PlainRemains) (answers : List (ℕ × Row)) (upto : ℕ) → remains_after count k ≡ Broken answers upto → IsBrokenSo k
+broken_before count (Running p) answers upto h = absurd (cc)
+broken_before count (Broken before there) answers upto h = (before, (there, refl))
+broken_before count Dropped answers upto h = absurd (cc)
 
-taken_before : (count : ℕ) (ks : List PlainRemains) (i n : ℕ) (answers : List (ℕ × Row)) → get_or (change i (remains_after count) ks) n Dropped ≡ Broken answers → IsBrokenSo (get_or ks n Dropped)
-taken_before count [] i n answers h = (answers, h)
-taken_before count (k ∷ ks) zero zero answers h = broken_before count k answers h
-taken_before count (k ∷ ks) zero (suc n) answers h = (answers, h)
-taken_before count (k ∷ ks) (suc i) zero answers h = (answers, h)
-taken_before count (k ∷ ks) (suc i) (suc n) answers h = taken_before count ks i n answers h
+taken_before : (count : ℕ) (ks : List PlainRemains) (i n : ℕ) (answers : List (ℕ × Row)) (upto : ℕ) → get_or (change i (remains_after count) ks) n Dropped ≡ Broken answers upto → IsBrokenSo (get_or ks n Dropped)
+taken_before count [] i n answers upto h = (answers, (upto, h))
+taken_before count (k ∷ ks) zero zero answers upto h = broken_before count k answers upto h
+taken_before count (k ∷ ks) zero (suc n) answers upto h = (answers, (upto, h))
+taken_before count (k ∷ ks) (suc i) zero answers upto h = (answers, (upto, h))
+taken_before count (k ∷ ks) (suc i) (suc n) answers upto h = taken_before count ks i n answers upto h
 
 taken_whole : (e : PlainEngine) (n : ℕ) (limit : ℤ) (count : ℕ) → IsWholeEngine e → IsWholeEngine (taken e n limit count)
-taken_whole e n limit count w = record { returned = w.returned; unbroken = λ j answers h. let was = taken_before count e.queries n j answers h in w.unbroken j was.0 was.1 }
+taken_whole e n limit count w = record { returned = w.returned; unbroken = λ j answers upto h. let was = taken_before count e.queries n j answers upto h in w.unbroken j was.0 was.1.0 was.1.1 }
 
 pub take_makes : {A : Type 0} (view : A → List (ℤ × Row)) (old : PlainEngine) (n : ℕ) (limit : ℤ) (r : Result A Fault) (new : PlainEngine) → Takes view old n limit r new
     → (new ≡ taken old n limit (count_of old n limit)) ⊎ (new ≡ old)

@@ -1,26 +1,27 @@
 -- What clients see of an engine that takes and drains.
-use Rattle.std.proofs.Common.{◌≡◌, ◌≢◌, ℕ, zero, suc, ℤ, true, false, cond, Option, Some, None, option_and_then, Result, Ok, Err, IfOk, OnOk, List, [], ◌∷◌, ◌++◌, drop, get_or, length, map, min, nat_abs, take, refl, sym, ap, ap₂, subst, ◌∙◌, arith}
+use Rattle.std.proofs.Common.{◌≡◌, ◌≢◌, ℕ, zero, suc, ℤ, true, false, cond, Option, Some, None, option_and_then, Result, Ok, Err, IfOk, OnOk, List, [], ◌∷◌, ◌++◌, drop, get_or, length, map, max, min, nat_abs, take, refl, sym, ap, ap₂, subst, ◌∙◌, arith}
 use Rattle.std.specs.Prelude.{⊤, slice_get}
 use Rattle.values.specs.Row.{Row}
 use Rattle.reference.specs.Commands.{Take, after, change, first_fault}
 use Rattle.plan.proofs.Lists.{by_test}
-use Rattle.reference.specs.Machine.{Machine, Registered, closed_answers, unless_dropped}
+use Rattle.reference.specs.Machine.{Machine, Registered, closed_answers, ends_at, unless_dropped, until_for}
 use Rattle.reference.specs.Steps.{AreNext}
 use Rattle.reference.proofs.CommandSteps.{take_is_step}
-use Rattle.reference.specs.World.{Does, Drains, IsPlenty, MayLackMemory, StopsEarly, WaitingAreNext, World, drain_fault, drain_step, handed, take_step, unless, untaken}
+use Rattle.reference.specs.World.{Does, Drains, IsPlenty, Looks, MayLackMemory, Step, StopsEarly, WaitingAreNext, World, drain_fault, drain_step, handed, peek_at, take_step, unless, untaken}
 use Rattle.reference.specs.declared.fault.Fault.{Fault}
 use Rattle.reference.specs.declared.fault.Fault.TheVariants as fault
 use Rattle.reference.specs.declared.fault.Fault.TheVariants.{Query, BadName, NameTaken, BadColumns, TooMany, UnknownStream, UnknownQuery, BadWidth, ValueRange, InstantRange, Late, Backward, Leap, StreamFull, BadLimit, UnknownLease, Stranger, TooManyLeases, HistoryFull, OutOfMemory, Foreign}
 use Rattle.run_queue.specs.Slots.{first_of}
 use Rattle.laws_engine.specs.Calls.{remains_after, taken}
-use Rattle.laws_engine.specs.Engines.{Broken, Dropped, GoodEngine, PlainEngine, PlainRemains, Running, answers_in, query_at, remains_at, world_of}
+use Rattle.laws_engine.specs.Engines.{Broken, Dropped, GoodEngine, IsExhausted, PlainEngine, PlainRemains, Running, answers_in, query_at, remains_at, upto_by, upto_in, world_of}
 use Rattle.laws_engine.specs.Promises.{GivesBeginnings, HasAllWaiting}
-use Rattle.laws_engine.proofs.IdleLemmas.{idle_waits}
+use Rattle.laws_engine.proofs.IdleLemmas.{idle_reached, idle_waits}
 use Rattle.laws_engine.proofs.PromiseLemmas.{keeps_its_promises}
+use Rattle.laws_engine.proofs.UptoLemmas.{upto_taken}
 use Rattle.leases.proofs.DrainLemmas.{drain_machine}
 use Rattle.leases.specs.Drains.{RunsTurns}
 use Rattle.leases.specs.Sound.{is_gone}
-use Rattle.leases.specs.Takes.{Takes, count_of}
+use Rattle.leases.specs.Takes.{Peeks, Takes, after_take, count_of}
 use Rattle.leases.specs.Whole.{IsWholeEngine}
 
 -- WHAT WAITS AT EACH QUERY
@@ -48,17 +49,38 @@ untaken_dropped m q e = rw e refl
 untaken_remains : (m : Machine) (q : Registered) → q.is_dropped ≡ false → drop q.taken (closed_answers m q) ≡ untaken m q
 untaken_remains m q e = rw e refl
 
+-- where a query ends that lives, and one that was dropped
+ends_live : (m : Machine) (q : Registered) → q.is_dropped ≡ false → max q.first (until_for m.streams q.places) ≡ ends_at m q
+ends_live m q e = rw e refl
+
+ends_dropped : (m : Machine) (q : Registered) → q.is_dropped ≡ true → 0 ≡ ends_at m q
+ends_dropped m q e = rw e refl
+
+upto_all : (m : Machine) (qs : List Registered) (ks : List PlainRemains) → length ks ≡ length qs → ((n : ℕ) (q : Registered) → slice_get qs n ≡ Some q → upto_in q (get_or ks n Dropped) ≡ ends_at m q) → upto_by qs ks ≡ map (ends_at m) qs
+upto_all m [] ks many h = refl
+upto_all m (q ∷ qs) [] many h = absurd (omega (arith, many))
+upto_all m (q ∷ qs) (k ∷ ks) many h = ap₂ (λ y ys. y ∷ ys) (h 0 q refl) (upto_all m qs ks (omega (arith, many)) (λ n r e. h (suc n) r e))
+
 module _ (e : PlainEngine) (g : GoodEngine e) (whole : IsWholeEngine e) (idle : first_of e.slots ≡ None) (gone : map (λ q. q.is_dropped) e.machine.queries ≡ map is_gone e.queries) where
   all : HasAllWaiting e
   all = idle_waits e g idle
 
   waits_at : (n : ℕ) (q : Registered) (remains : PlainRemains) → query_at e n ≡ Some q → remains_at e n ≡ remains → q.is_dropped ≡ is_gone remains → answers_in remains ≡ untaken e.machine q
   waits_at n q (Running p) r k d = all n q p r k (λ j. rw whole.returned refl) ∙ untaken_remains e.machine q d
-  waits_at n q (Broken answers) r k d = absurd (whole.unbroken n answers k)
+  waits_at n q (Broken answers upto) r k d = absurd (whole.unbroken n answers upto k)
   waits_at n q Dropped r k d = untaken_dropped e.machine q d
 
   all_wait : map answers_in e.queries ≡ map (untaken e.machine) e.machine.queries
   all_wait = all_in e.machine e.machine.queries e.queries g.many (λ n q r. waits_at n q (remains_at e n) r refl (gone_at e.machine.queries e.queries n q gone r))
+
+  -- and each is complete up to the first instant that is not closed
+  reached_at : (n : ℕ) (q : Registered) (remains : PlainRemains) → query_at e n ≡ Some q → remains_at e n ≡ remains → q.is_dropped ≡ is_gone remains → upto_in q remains ≡ ends_at e.machine q
+  reached_at n q (Running p) r k d = idle_reached e g idle n q p r k (λ j. rw whole.returned refl) ∙ ends_live e.machine q d
+  reached_at n q (Broken answers upto) r k d = absurd (whole.unbroken n answers upto k)
+  reached_at n q Dropped r k d = ends_dropped e.machine q d
+
+  all_reached : upto_by e.machine.queries e.queries ≡ map (ends_at e.machine) e.machine.queries
+  all_reached = upto_all e.machine e.machine.queries e.queries g.many (λ n q r. reached_at n q (remains_at e n) r refl (gone_at e.machine.queries e.queries n q gone r))
 
 -- A STEP that is done, or refused
 step_done : {A : Type 0} (o : Option Fault) (w made new : World) (a b : A) → o ≡ None → a ≡ b → made ≡ new → unless o w a made ≡ (Ok b, new)
@@ -101,11 +123,13 @@ waits_next e begins n q at =
 
 -- A DRAIN
 module _ (old new : PlainEngine) (rows : ℕ) (machine : new.machine ≡ old.machine) where
-  drain_done : drain_fault rows ≡ None → map answers_in new.queries ≡ map (untaken new.machine) new.machine.queries → (u : ⊤) → drain_step (world_of old) rows ≡ (Ok u, world_of new)
+  drain_done : drain_fault rows ≡ None → map answers_in new.queries ≡ map (untaken new.machine) new.machine.queries → upto_by new.machine.queries new.queries ≡ map (ends_at new.machine) new.machine.queries
+      → (u : ⊤) → drain_step (world_of old) rows ≡ (Ok u, world_of new)
   unfolding drain_step
-  drain_done none all u =
+  drain_done none all ends u =
       step_done (drain_fault rows) (world_of old) _ (world_of new) tt u none refl
       (let waits : map (untaken old.machine) old.machine.queries ≡ map answers_in new.queries = ap (λ m. map (untaken m) m.queries) (sym machine) ∙ sym all in
+      let upto : map (ends_at old.machine) old.machine.queries ≡ upto_by new.machine.queries new.queries = ap (λ m. map (ends_at m) m.queries) (sym machine) ∙ sym ends in
       let m : old.machine ≡ new.machine = sym machine in cc)
 
   drain_lacks : drain_fault rows ≡ None → MayLackMemory (drain_step (world_of old) rows).0
@@ -144,8 +168,8 @@ module _ (old new : PlainEngine) (rows : ℕ) (machine : new.machine ≡ old.mac
   drain_stops g (Foreign entries) h = absurd h
 
 -- A TAKE
-abbrev the_world : Machine → List (List (ℕ × Row)) → World
-the_world m ws = record { machine = m; waiting = ws }
+abbrev the_world : Machine → List (List (ℕ × Row)) → List ℕ → World
+the_world m ws us = record { machine = m; waiting = ws; upto = us }
 
 none_dropped : (count : ℕ) → [] ≡ drop {A = ℕ × Row} count []
 none_dropped zero = refl
@@ -153,8 +177,14 @@ none_dropped (suc count) = refl
 
 remains_dropped : (count : ℕ) (k : PlainRemains) → answers_in (remains_after count k) ≡ drop count (answers_in k)
 remains_dropped count (Running p) = refl
-remains_dropped count (Broken answers) = refl
+remains_dropped count (Broken answers upto) = refl
 remains_dropped count Dropped = none_dropped count
+
+-- of one that is not broken
+unexhausted : (k : PlainRemains) → ((answers : List (ℕ × Row)) (upto : ℕ) → k ≡ Broken answers upto → ⊥) → IsExhausted k → ⊥
+unexhausted (Running p) h gone = gone
+unexhausted (Broken answers upto) h gone = h answers upto refl
+unexhausted Dropped h gone = gone
 
 changed_waiting : (count n : ℕ) (ks : List PlainRemains) → change n (drop count) (map answers_in ks) ≡ map answers_in (change n (remains_after count) ks)
 changed_waiting count n [] = refl
@@ -175,10 +205,10 @@ module _ {A : Type 0} (view : A → List (ℤ × Row)) (old : PlainEngine) (n : 
   counted = ap (λ ws. min (nat_abs limit) (length ws)) here
 
   abbrev World_of : ℕ → World
-  World_of c = record { machine = after old.machine (Take n limit) c; waiting = change n (drop c) (map answers_in old.queries) }
+  World_of c = record { machine = after old.machine (Take n limit) c; waiting = change n (drop c) (map answers_in old.queries); upto = upto_by old.machine.queries old.queries }
 
   made_same : (c : ℕ) → World_of c ≡ world_of (taken old n limit c)
-  made_same c = ap (the_world (after old.machine (Take n limit) c)) (changed_waiting c n old.queries)
+  made_same c = ap₂ (the_world (after old.machine (Take n limit) c)) (changed_waiting c n old.queries) (upto_taken c n old.machine.queries old.queries)
 
   take_done : (rows : A) (new : PlainEngine) → first_fault old.machine (Take n limit) ≡ None → view rows ≡ handed (take (count_of old n limit) (answers_in (remains_at old n))) → new ≡ taken old n limit (count_of old n limit)
       → take_step (world_of old) n limit ≡ (Ok (view rows), world_of new)
@@ -199,7 +229,7 @@ module _ {A : Type 0} (view : A → List (ℤ × Row)) (old : PlainEngine) (n : 
   takes : IsWholeEngine old → (r : Result A Fault) (new : PlainEngine) → Takes view old n limit r new → Does view (world_of old) (take_step (world_of old) n limit) r (world_of new)
   takes whole (Ok rows) new h = take_done rows new h.0 h.1 h.2
   takes whole (Err OutOfMemory) new h = (ap world_of h.1, take_lacks h.0)
-  takes whole (Err fault.Broken) new h = absurd (whole.unbroken n [] h.1)
+  takes whole (Err fault.Broken) new h = absurd (unexhausted (remains_at old n) (whole.unbroken n) h.1)
   takes whole (Err (Query x)) new h = take_refused new (Query x) h.0 h.1
   takes whole (Err BadName) new h = take_refused new BadName h.0 h.1
   takes whole (Err NameTaken) new h = take_refused new NameTaken h.0 h.1
@@ -224,7 +254,7 @@ module _ {A : Type 0} (view : A → List (ℤ × Row)) (old : PlainEngine) (n : 
 -- BOTH, as clients see them
 pub drains_are : (old new : PlainEngine) (rows : ℕ) (r : Result ⊤ Fault) → GoodEngine new → map (λ q. q.is_dropped) new.machine.queries ≡ map is_gone new.queries → RunsTurns old rows r new
     → OnOk r (first_of new.slots ≡ None) → (r ≢ Err OutOfMemory → IsWholeEngine new) → Drains (world_of old) (drain_step (world_of old) rows) r (world_of new)
-drains_are old new rows (Ok u) g gone runs idle whole = drain_done old new rows (drain_machine old new rows (Ok u) runs) runs.0 (all_wait new g (whole (λ e. cc)) idle gone) u
+drains_are old new rows (Ok u) g gone runs idle whole = drain_done old new rows (drain_machine old new rows (Ok u) runs) runs.0 (all_wait new g (whole (λ e. cc)) idle gone) (all_reached new g (whole (λ e. cc)) idle gone) u
 drains_are old new rows (Err f) g gone runs idle whole = drain_stops old new rows (drain_machine old new rows (Err f) runs) g f runs
 
 pub drains_wait : (new : PlainEngine) (r : Result ⊤ Fault) → GoodEngine new → OnOk r (first_of new.slots ≡ None) → OnOk r (HasAllWaiting new)
@@ -244,3 +274,36 @@ pub takes_next : {A : Type 0} (view : A → List (ℤ × Row)) (old : PlainEngin
 takes_next view old n limit (Ok rows) new begins h =
     (take_is_step (world_of old) (world_of new) n limit (view rows) (waits_next old begins) (take_done view old n limit rows new h.0 h.1 h.2)).gives
 takes_next view old n limit (Err f) new begins h = tt
+
+-- A LOOK at what a step answers
+did_look : {A B : Type 0} (view : A → B) (old new : World) (step : Step B) (r : Result A Fault) → Does view old step r new → Looks view step.0 r
+did_look view old new step (Ok a) d = ap (λ z. z.0) d
+did_look view old new step (Err OutOfMemory) d = d.1
+did_look view old new step (Err fault.Broken) d = ap (λ z. z.0) d
+did_look view old new step (Err (Query x)) d = ap (λ z. z.0) d
+did_look view old new step (Err (Foreign entries)) d = ap (λ z. z.0) d
+did_look view old new step (Err BadName) d = ap (λ z. z.0) d
+did_look view old new step (Err NameTaken) d = ap (λ z. z.0) d
+did_look view old new step (Err BadColumns) d = ap (λ z. z.0) d
+did_look view old new step (Err TooMany) d = ap (λ z. z.0) d
+did_look view old new step (Err UnknownStream) d = ap (λ z. z.0) d
+did_look view old new step (Err UnknownQuery) d = ap (λ z. z.0) d
+did_look view old new step (Err BadWidth) d = ap (λ z. z.0) d
+did_look view old new step (Err ValueRange) d = ap (λ z. z.0) d
+did_look view old new step (Err InstantRange) d = ap (λ z. z.0) d
+did_look view old new step (Err Late) d = ap (λ z. z.0) d
+did_look view old new step (Err Backward) d = ap (λ z. z.0) d
+did_look view old new step (Err Leap) d = ap (λ z. z.0) d
+did_look view old new step (Err StreamFull) d = ap (λ z. z.0) d
+did_look view old new step (Err BadLimit) d = ap (λ z. z.0) d
+did_look view old new step (Err UnknownLease) d = ap (λ z. z.0) d
+did_look view old new step (Err Stranger) d = ap (λ z. z.0) d
+did_look view old new step (Err HistoryFull) d = ap (λ z. z.0) d
+did_look view old new step (Err TooManyLeases) d = ap (λ z. z.0) d
+
+pub peeks_are : {A : Type 0} (view : A → List (ℤ × Row)) (e : PlainEngine) (n : ℕ) (limit : ℤ) (r : Result A Fault) → IsWholeEngine e → Peeks view e n limit r → Looks view (peek_at (world_of e) n limit) r
+unfolding peek_at
+peeks_are view e n limit r whole h = did_look view (world_of e) (world_of (after_take e n limit r)) (take_step (world_of e) n limit) r (takes_are view e n limit r (after_take e n limit r) whole h)
+
+pub peeks_next : {A : Type 0} (view : A → List (ℤ × Row)) (e : PlainEngine) (n : ℕ) (limit : ℤ) (r : Result A Fault) → GivesBeginnings e → Peeks view e n limit r → IfOk r (λ v. AreNext e.machine n limit (view v))
+peeks_next view e n limit r begins h = takes_next view e n limit r (after_take e n limit r) begins h

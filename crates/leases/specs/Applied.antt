@@ -11,7 +11,7 @@ use Rattle.query_runtime.specs.Turns.{CanFinish, CanPut, HasBatches, HasFinished
 use Rattle.query_runtime.specs.Turns.{HasPut, log_of, wire_at}
 use Rattle.run_queue.specs.Slots.{Stands, changed, without_query}
 use Rattle.run_queue.specs.declared.slots.Slot.{Slot}
-use Rattle.laws_engine.specs.Calls.{IsOf, broken, others}
+use Rattle.laws_engine.specs.Calls.{IsOf, broken, broken_at, others}
 use Rattle.laws_engine.specs.Engines.{IsIn, Lease, PlainEngine, PlainRemains, Running, next_at}
 use Rattle.laws_engine.specs.Engines.{query_at, remains_at, slot_at}
 use Rattle.leases.specs.Asked.{HasOperatorAt}
@@ -80,7 +80,11 @@ HasTakenIn old l new =
     → (p2 : PlainQuery) × (HasTaken old.machine.streams p l p2
     × (new ≡ with_remains old l.query (Running p2)))
 
--- it is broken
+-- it is broken, and its answers are complete up to an instant, or up to where they were
+abbrev pub IsBrokenAt : PlainEngine → ℕ → ℕ → PlainEngine → Type 0
+IsBrokenAt old n upto new =
+    (p : PlainQuery) → remains_at old n ≡ Running p → new ≡ broken_at old n p upto
+
 abbrev pub IsBroken : PlainEngine → ℕ → PlainEngine → Type 0
 IsBroken old n new = (p : PlainQuery) → remains_at old n ≡ Running p → new ≡ broken old n p
 

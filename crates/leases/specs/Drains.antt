@@ -1,4 +1,4 @@
--- What a drain does: turns go out and come back.
+-- What a drain does: turns go out and come back, and queries pass instants.
 use Rattle.std.specs.Prelude.{ℕ, Bool, true, false, ⊤, ◌≡◌, ◌⊎◌, None, Some, List, [], ◌∷◌, Result}
 use Rattle.std.specs.Prelude.{Ok, Err}
 use Rattle.values.specs.Row.{Row}
@@ -10,21 +10,31 @@ use Rattle.run_queue.specs.Slots.{first_of}
 use Rattle.laws_engine.specs.Calls.{of_others}
 use Rattle.laws_engine.specs.Engines.{Broken, PlainEngine, remains_at}
 use Rattle.laws_engine.specs.Histories.{Breaks, Finishes, IsCallStep}
+use Rattle.laws_engine.specs.Passing.{HasPassed}
 use Rattle.leases.specs.Turns.{HasReady, IsFull, IsTurnOf, lease_fault}
 use Rattle.leases.specs.Views.{lease_of}
 
--- TURNS of at most so many rows went out and came back, one after the
--- other: each of an operator of greatest slope, with the next number
-abbrev pub HaveRun : ℕ → PlainEngine → List Turn → PlainEngine → Type 0
+-- A STEP of a drain: a turn of at most so many rows of an operator of greatest slope, with the next
+-- number, goes out and comes back; or a query, of which no turn is out, passes the instants below
+-- one at which it has nothing to do
+pub data Step : Type 0 where
+  Ran : Turn → Step
+  Passed : ℕ → ℕ → Step
+
+abbrev pub IsDone : ℕ → PlainEngine → Step → PlainEngine → Type 0
+IsDone rows old (Ran t) new =
+    (out : PlainEngine) × (IsTurnOf old rows t out × IsCallStep out (Finishes (lease_of t)) new)
+IsDone rows old (Passed n b) new = HasPassed old n b new
+
+-- STEPS, one after the other
+abbrev pub HaveRun : ℕ → PlainEngine → List Step → PlainEngine → Type 0
 HaveRun rows old [] new = new ≡ old
-HaveRun rows old (t ∷ turns) new =
-    (out : PlainEngine) × ((home : PlainEngine)
-    × (IsTurnOf old rows t out × (IsCallStep out (Finishes (lease_of t)) home
-    × HaveRun rows home turns new)))
+HaveRun rows old (s ∷ steps) new =
+    (mid : PlainEngine) × (IsDone rows old s mid × HaveRun rows mid steps new)
 
 -- some did, and nothing else was done
 abbrev pub SomeHaveRun : ℕ → PlainEngine → PlainEngine → Type 0
-SomeHaveRun rows old new = (turns : List Turn) × HaveRun rows old turns new
+SomeHaveRun rows old new = (steps : List Step) × HaveRun rows old steps new
 
 -- one went out, and memory was wanted when it came back: its query is broken
 abbrev pub OneHasFailed : ℕ → PlainEngine → PlainEngine → Type 0
@@ -42,12 +52,11 @@ abbrev pub HasWantedBehind : ℕ → PlainEngine → PlainEngine → Type 0
 HasWantedBehind rows old new =
     (last : PlainEngine) × (SomeHaveRun rows old last × HasWanted rows last new)
 
--- one went out and came back
+-- one was done
 abbrev pub OneHasRun : ℕ → PlainEngine → PlainEngine → Type 0
-OneHasRun rows old new = (t : Turn)
-    × ((out : PlainEngine) × (IsTurnOf old rows t out × IsCallStep out (Finishes (lease_of t)) new))
+OneHasRun rows old new = (s : Step) × IsDone rows old s new
 
--- ONE STEP: at least one did: some, and then one more
+-- AT LEAST ONE was done: some, and then one more
 abbrev pub OneOrMoreHaveRun : ℕ → PlainEngine → PlainEngine → Type 0
 OneOrMoreHaveRun rows old new =
     (last : PlainEngine) × (SomeHaveRun rows old last × OneHasRun rows last new)
@@ -85,7 +94,8 @@ as_drained (Err fault) = Err fault
 pub record HasBrokenOne (old new : PlainEngine) : Type 0 where
   pub query : ℕ
   pub answers : List (ℕ × Row)
-  pub broken : remains_at new query ≡ Broken answers
+  pub upto : ℕ
+  pub broken : remains_at new query ≡ Broken answers upto
   pub left : new.leases ≡ of_others query old.leases
 
 -- they all are out, and no more; but where memory was wanted, a query may have broken

@@ -14,8 +14,8 @@ use Rattle.stream_store.specs.declared.starts.Start.{Start}
 use Rattle.needed_rows.specs.Columns.{IsRegular}
 use Rattle.laws_dataflow.specs.Plans.{below_root}
 use Rattle.laws_engine.specs.Engines.{Broken, Dropped, PlainEngine, PlainRemains, Running}
-use Rattle.laws_engine.specs.Engines.{answers_in}
-use Rattle.laws_engine.specs.Openings.{marks_by, next_of}
+use Rattle.laws_engine.specs.Engines.{answers_in, next_of}
+use Rattle.laws_engine.specs.Openings.{marks_by}
 use Rattle.leases.specs.Keeping.{AllSay, going_over}
 use Rattle.leases.specs.Views.{query_of, remains_of}
 use Rattle.leases.specs.declared.registered.Registration.{Registration}
@@ -63,7 +63,7 @@ IsReadLog log = (s : Stream) × (IsRegular s × (log ≡ closed_of s))
 abbrev pub IsMarkable : Registered → PlainRemains → Type 0
 IsMarkable q (Running p) = (0 < length p.operators)
     × ((below_root q.nodes ≡ length p.operators - 1) × (next_of q p ≤ max q.first all_instants))
-IsMarkable q (Broken answers) = ⊤
+IsMarkable q (Broken answers upto) = ⊤
 IsMarkable q Dropped = ⊤
 
 abbrev pub AreMarkable : List Registration → List Remains → Type 0

@@ -17,5 +17,6 @@ pub mod Queues
 pub mod Undropped
 pub mod Forgets
 pub mod Openings
+pub mod Passing
 pub mod Going
 pub mod Keeping

@@ -1,16 +1,18 @@
 -- What clients see of a query that was not dropped.
-use Rattle.std.specs.Prelude.{ℕ, ◌≡◌, ◌++◌, suc, None, Some, List, [], ◌∷◌, length, Result, Ok, Err}
+use Rattle.std.specs.Prelude.{ℕ, ◌≡◌, ◌++◌, suc, Bool, true, false, cond, None, Some, List, [], ◌∷◌}
+use Rattle.std.specs.Prelude.{length, map, Result, Ok, Err}
 use Rattle.column.specs.declared.batch.Side.TheVariants.{Left, Right}
 use Rattle.op_queue.specs.Logs.{Closed}
 use Rattle.operators.specs.Operators.{waiting}
 use Rattle.plan.specs.Nodes as plan
 use Rattle.reference.specs.Commands.{Drop, first_fault}
 use Rattle.reference.specs.Machine.{Machine, Registered}
+use Rattle.reference.specs.Status.{QueryStatus, Status, query_status, stream_status}
 use Rattle.reference.specs.declared.fault.Fault.{Fault}
 use Rattle.reference.specs.declared.fault.Fault.TheVariants as fault
 use Rattle.laws_queries.specs.Queries.{PlainQuery, log_at, operator_at}
 use Rattle.laws_engine.specs.Engines.{Broken, Dropped, PlainEngine, PlainRemains, Running}
-use Rattle.laws_engine.specs.Engines.{answers_in, query_at, remains_at}
+use Rattle.laws_engine.specs.Engines.{answers_in, query_at, remains_at, upto_in}
 
 -- HOW MANY ANSWERS WAIT
 abbrev pub WaitsAt : PlainEngine → ℕ → Result ℕ Fault → Type 0
@@ -42,7 +44,7 @@ noughts_of (node ∷ nodes) = queues_of node 0 0 ++ noughts_of nodes
 
 abbrev pub lengths_in : Machine → Registered → PlainRemains → List ℕ
 lengths_in m q (Running p) = lengths_from (log_at m q) p 0 q.nodes
-lengths_in m q (Broken answers) = noughts_of q.nodes
+lengths_in m q (Broken answers upto) = noughts_of q.nodes
 lengths_in m q Dropped = []
 
 -- what a look at them answers
@@ -53,3 +55,27 @@ IsPending view e n (Ok found) =
     → view found ≡ lengths_in e.machine q (remains_at e n))
 IsPending view e n (Err fault.OutOfMemory) = first_fault e.machine (Drop n) ≡ None
 IsPending view e n (Err f) = first_fault e.machine (Drop n) ≡ Some f
+
+-- HOW FAR ALL QUERIES ARE
+-- running out of memory broke it
+abbrev pub is_broken : PlainRemains → Bool
+is_broken (Running p) = false
+is_broken (Broken answers upto) = true
+is_broken Dropped = false
+
+-- one that was not dropped, with what is left of it
+abbrev pub status_at : Registered → PlainRemains → List QueryStatus
+status_at q k = cond q.is_dropped []
+    (query_status q (answers_in k) (upto_in q k) (is_broken k) ∷ [])
+
+abbrev pub queries_in : List Registered → List PlainRemains → List QueryStatus
+queries_in [] remains = []
+queries_in (q ∷ qs) [] = []
+queries_in (q ∷ qs) (k ∷ remains) = status_at q k ++ queries_in qs remains
+
+-- THE STATUS of an engine, whole or not
+abbrev pub status_in_engine : PlainEngine → Status
+status_in_engine e = record {
+  queries = queries_in e.machine.queries e.queries;
+  streams = map stream_status e.machine.streams;
+}

@@ -19,7 +19,7 @@ use Rattle.laws_engine.specs.Engines.{answers_in, query_at, remains_at}
 -- query of which this is left: only a running query has queues
 abbrev pub queue_in : Machine → Registered → PlainRemains → ℕ → Side → List (Entry Row)
 queue_in m q (Running p) k side = waiting (operator_at p.operators k) (log_at m q k) side
-queue_in m q (Broken answers) k side = []
+queue_in m q (Broken answers upto) k side = []
 queue_in m q Dropped k side = []
 
 -- THE QUEUE of the operator k of the query n, on a side: the rows and ticks that it has yet to take
@@ -58,7 +58,7 @@ brought_to m s at q (plan.ToStream i op) side = []
 abbrev pub brought_in : Machine → ℕ → ℤ → Registered → PlainRemains → ℕ → Side → List (Entry Row)
 brought_in m s at q (Running p) k side =
     cond (nat_lt k (length q.nodes)) (brought_to m s at q (node_at q k) side) []
-brought_in m s at q (Broken answers) k side = []
+brought_in m s at q (Broken answers upto) k side = []
 brought_in m s at q Dropped k side = []
 
 abbrev pub brought_at : PlainEngine → ℕ → ℤ → ℕ → ℕ → Side → List (Entry Row)

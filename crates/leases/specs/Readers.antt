@@ -48,7 +48,7 @@ windows_from q n k (node ∷ nodes) =
 -- whether a query runs
 abbrev pub runs : PlainRemains → Bool
 runs (Running p) = true
-runs (Broken answers) = false
+runs (Broken answers upto) = false
 runs Dropped = false
 
 -- THE LIST OF READERS: just the windows of the queries that run, each once;
@@ -67,7 +67,7 @@ abbrev pub is_idle_in : List Stream → ℕ → PlainRemains → Bool
 is_idle_in streams k (Running p) =
     nat_lt k (length p.operators)
     && is_none (ready (operator_at p.operators k) (log_of streams p k))
-is_idle_in streams k (Broken answers) = false
+is_idle_in streams k (Broken answers upto) = false
 is_idle_in streams k Dropped = false
 
 abbrev pub is_idle_at : PlainEngine → ℕ → ℕ → Bool
@@ -85,7 +85,7 @@ idle_slots e s (r ∷ rs) = cond (r.stream == s) (idle_slot e r.query r.operator
 abbrev pub next_in : PlainEngine → ℕ → ℕ → Option Registered → PlainRemains → Option (Side × ℕ)
 next_in e n k None remains = None
 next_in e n k (Some q) (Running p) = next_at e n q p k
-next_in e n k (Some q) (Broken answers) = None
+next_in e n k (Some q) (Broken answers upto) = None
 next_in e n k (Some q) Dropped = None
 
 abbrev pub next_for : PlainEngine → ℕ → ℕ → Option (Side × ℕ)

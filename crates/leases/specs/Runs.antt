@@ -1,6 +1,7 @@
 -- A turn of the first slot that its query runs in place.
-use Rattle.std.specs.Prelude.{ℕ, ◌≡◌, List}
+use Rattle.std.specs.Prelude.{ℕ, ◌≡◌, ◌-◌, List, Option, length}
 use Rattle.operators.specs.Runs.{Stops}
+use Rattle.operators.specs.States.{last_in}
 use Rattle.operators.specs.declared.runs.Refused.{Refused}
 use Rattle.reference.specs.Machine.{Stream}
 use Rattle.laws_queries.specs.Queries.{PlainQuery, operator_at}
@@ -28,6 +29,14 @@ HasRunIn old s rows new =
     (p : PlainQuery) → remains_at old s.query ≡ Running p
     → (p2 : PlainQuery) × (HasRunOn old.machine.streams p s rows p2
     × (new ≡ with_remains old s.query (Running p2)))
+
+-- the instant of the last tick that a query's root has taken
+abbrev pub last_of : PlainQuery → Option ℕ
+last_of p = last_in (operator_at p.operators (length p.operators - 1)).state
+
+-- it is that of the query n
+abbrev pub HasLast : PlainEngine → ℕ → Option ℕ → Type 0
+HasLast e n last = (p : PlainQuery) → remains_at e n ≡ Running p → last ≡ last_of p
 
 -- IT WAS REFUSED MEMORY: the query is as it was, or had
 -- an item in hand, and only its answers are as they were

@@ -14,7 +14,7 @@ use Rattle.leases.specs.declared.state.State.{State}
 -- nothing is left of a query that was dropped
 abbrev pub is_gone : PlainRemains → Bool
 is_gone (Running p) = false
-is_gone (Broken answers) = false
+is_gone (Broken answers upto) = false
 is_gone Dropped = true
 
 -- it is a good engine, whose turns do what their operators do; few are out, and no number above the

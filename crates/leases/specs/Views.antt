@@ -9,7 +9,7 @@ use Rattle.reference.specs.Machine.{Registered, Stream, empty}
 use Rattle.laws_queries.specs.Queries.{PlainQuery, operator_at}
 use Rattle.run_queue.specs.declared.slots.Slot.{Slot}
 use Rattle.laws_engine.specs.Engines.{Broken, Dropped, Lease, PlainEngine, PlainRemains, Running}
-use Rattle.laws_engine.specs.Engines.{remains_at}
+use Rattle.laws_engine.specs.Engines.{answers_in, remains_at}
 use Rattle.leases.specs.declared.remains.Remains.{Remains}
 use Rattle.leases.specs.declared.remains.Remains.TheVariants as code
 use Rattle.leases.specs.declared.registered.Place.{Place}
@@ -19,7 +19,14 @@ use Rattle.leases.specs.declared.registered.Registration.{Registration}
 abbrev pub place_of : Place → machine.Place
 place_of p = record { stream = p.stream; arrivals = p.arrivals }
 
--- a registered query
+-- what is left of a query
+abbrev pub remains_of : Remains → PlainRemains
+remains_of (code.Running p) = Running p
+remains_of (code.Broken answers reach) = Broken answers reach.next
+remains_of code.Dropped = Dropped
+
+-- a registered query; the answers that waited when
+-- rows were last forgotten are known to the proof alone
 abbrev pub query_of : Registration → Registered
 query_of r = record {
   name = string_bytes r.name;
@@ -29,8 +36,9 @@ query_of r = record {
   places = map place_of r.places.items;
   first = r.first;
   start = r.start;
-  earlier = r.earlier;
+  earlier = answers_in (remains_of r.before.value);
   taken = r.taken;
+  ever_taken = r.ever_taken;
   is_dropped = r.is_dropped;
 }
 
@@ -44,12 +52,6 @@ lease_of t = record {
   item = t.item;
   excerpt = t.near;
 }
-
--- what is left of a query
-abbrev pub remains_of : Remains → PlainRemains
-remains_of (code.Running p) = Running p
-remains_of (code.Broken answers) = Broken answers
-remains_of code.Dropped = Dropped
 
 abbrev pub engine_of : List Stream → List Registration → List Remains → List Turn → ℕ → List Slot
     → PlainEngine
@@ -73,5 +75,5 @@ empty_engine = record { machine = empty; queries = []; leases = []; next = 0; sl
 -- how many answers wait; of a dropped query that is not said
 abbrev pub waiting_in : PlainRemains → Option ℕ
 waiting_in (Running p) = Some (length p.answers)
-waiting_in (Broken answers) = Some (length answers)
+waiting_in (Broken answers upto) = Some (length answers)
 waiting_in Dropped = None

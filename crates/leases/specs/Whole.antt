@@ -8,7 +8,8 @@ use Rattle.leases.specs.declared.state.State.{State}
 
 pub record IsWholeEngine (e : PlainEngine) : Type 0 where
   pub returned : e.leases ≡ []
-  pub unbroken : (n : ℕ) (answers : List (ℕ × Row)) → remains_at e n ≡ Broken answers → ⊥
+  pub unbroken : (n : ℕ) (answers : List (ℕ × Row)) (upto : ℕ)
+      → remains_at e n ≡ Broken answers upto → ⊥
 
 abbrev pub IsWhole : State → Type 0
 IsWhole s = IsWholeEngine (engine_in s)

@@ -3,6 +3,7 @@
 mod answering;
 mod forgets;
 mod looks;
+mod takes;
 mod turns;
 
 use crate::state::State;

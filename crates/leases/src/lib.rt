@@ -5,6 +5,7 @@ mod engine;
 mod leased;
 mod limits;
 mod opening;
+mod reach;
 mod reader;
 mod registered;
 mod remains;

@@ -2,7 +2,6 @@
 ghost use Rattle.std.specs.Prelude.{◌≡◌, MatchOption, None, Some, length, map, slice_get};
 ghost use Rattle.std.specs.Option.{option_map};
 ghost use Rattle.reference.specs.Machine.{empty};
-ghost use Rattle.leases.specs.Openings.{opening_in};
 ghost use Rattle.leases.specs.Views.{query_of};
 
 use crate::registered::Registration;
@@ -21,9 +20,14 @@ pub struct Opening {
     streams: Vec<Stored>,
     /// Holds each query as it was registered, by number, with the instant from which it goes on.
     registered: Vec<Registration>,
+    /// Holds the waiting answers of each query, by number.
+    waiting: Vec<WaitingAnswers>,
+    ghost waits: { waiting.items ≡ map (λ q. q.earlier) (map query_of registered.items) },
 }
 
 impl Opening {
+    ghost use Rattle.leases.specs.Openings.{opening_in};
+
     /// Makes the opening of an engine without any stream or query. Takes no memory.
     #[tactic(auto, unfolding(crate::specs::Openings::opening_in))]
     pub fn new(alloc: Global) -> Opening
@@ -32,18 +36,25 @@ impl Opening {
         Opening {
             streams: Vec::new(alloc),
             registered: Vec::new(alloc),
+            waiting: Vec::new(alloc),
         }
     }
 
-    /// Makes an opening of these streams and queries. Takes no memory.
+    /// Makes an opening of these streams and queries, and of what waits. Takes no memory.
     #[tactic(auto, unfolding(crate::specs::Openings::opening_in))]
-    pub(crate) fn of(streams: Vec<Stored>, registered: Vec<Registration>) -> Opening
+    pub(crate) fn of(
+        streams: Vec<Stored>,
+        registered: Vec<Registration>,
+        waiting: Vec<WaitingAnswers>,
+    ) -> Opening
+        requires { waiting.items ≡ map (λ q. q.earlier) (map query_of registered.items) }
         ensures streams { (opening_in result).streams ≡ streams.items }
         ensures queries { (opening_in result).queries ≡ map query_of registered.items }
     {
         Opening {
             streams,
             registered,
+            waiting,
         }
     }
 
@@ -85,9 +96,6 @@ impl Opening {
             (λ answers. option_map (λ q. q.earlier) (slice_get (opening_in self.now).queries query)
             ≡ Some answers.now) }
     {
-        match self.registered.get(query as usize) {
-            Some(query) => Some(&query.earlier),
-            None => None,
-        }
+        self.waiting.get(query as usize)
     }
 }

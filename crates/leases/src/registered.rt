@@ -1,13 +1,15 @@
 //! Keeps a query as it was registered.
 ghost use Rattle.std.specs.Arc.{arc_value};
-ghost use Rattle.std.specs.Prelude.{◌≡◌};
+ghost use Rattle.std.specs.Prelude.{◌≡◌, ◌≤◌};
 ghost use Rattle.plan.specs.Paths.{plan_slopes};
 ghost use Rattle.plan.specs.Views.{nodes_of};
+ghost use Rattle.reference.specs.Opening.{all_instants};
 
+use crate::remains::Remains;
 use envelope::Slope;
 use plan::{Node, Plan};
-use query_runtime::WaitingAnswers;
 use std::ops::Deref;
+use std::snapshot::Snapshot;
 use std::sync::Arc;
 
 /// Is a source of a registered query.
@@ -39,12 +41,16 @@ pub(crate) struct Registration {
     /// Holds the instant from which its answers follow the earlier ones: its first instant, until
     /// rows are forgotten.
     pub(crate) start: u64,
-    /// Holds the answers that waited when rows were last forgotten.
-    pub(crate) earlier: WaitingAnswers,
+    /// Shows, for the proof, what was left of it when rows were last forgotten: the answers that
+    /// waited then come first. It takes no memory.
+    pub(crate) before: Snapshot<Remains>,
     /// Counts its answers that were taken since rows were last forgotten.
     pub(crate) taken: u128,
+    /// Counts all its answers that were ever taken, up to 2^64 - 1.
+    pub(crate) ever_taken: u64,
     /// Says whether it was dropped.
     pub(crate) is_dropped: bool,
+    ghost early: { first ≤ all_instants },
     ghost sloped: { slopes.items
         ≡ plan_slopes (nodes_of (arc_value plan).nodes.items) (arc_value plan).measures.items },
 }

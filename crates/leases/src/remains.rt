@@ -2,8 +2,10 @@
 ghost use Rattle.std.specs.Prelude.{◌≡◌, IfOk};
 ghost use Rattle.laws_engine.specs.Engines.{Broken, Running, answers_in};
 ghost use Rattle.laws_queries.specs.Queries.{PlainQuery};
+ghost use Rattle.leases.specs.Looks.{is_broken};
 ghost use Rattle.leases.specs.Views.{remains_of, waiting_in};
 
+use crate::reach::Reach;
 use query_runtime::{RunningQuery, WaitingAnswers};
 use std::alloc::{AllocError, Global};
 use std::mem::replace;
@@ -13,9 +15,9 @@ use std::mem::replace;
 pub(crate) enum Remains {
     /// Holds a query that runs.
     Running(RunningQuery),
-    /// Holds the waiting answers of a query that broke when it ran out of memory. Nothing else of
-    /// it is left.
-    Broken(WaitingAnswers),
+    /// Holds the waiting answers of a query that broke when it ran out of memory, and how far its
+    /// answers reached then. Nothing else of it is left.
+    Broken(WaitingAnswers, Reach),
     /// Marks a query that was dropped.
     Dropped,
 }
@@ -27,8 +29,19 @@ impl Remains {
     {
         match self {
             Remains::Running(query) => Some(query.waiting()),
-            Remains::Broken(answers) => Some(answers.len()),
+            Remains::Broken(answers, _) => Some(answers.len()),
             Remains::Dropped => None,
+        }
+    }
+
+    /// Returns whether running out of memory broke the query.
+    pub(crate) fn is_broken(&self) -> bool
+        ensures { result ≡ is_broken (remains_of self.now) }
+    {
+        match self {
+            Remains::Running(_) => false,
+            Remains::Broken(_, _) => true,
+            Remains::Dropped => false,
         }
     }
 
@@ -41,19 +54,19 @@ impl Remains {
     {
         match self {
             Remains::Running(query) => query.copy_answers(alloc),
-            Remains::Broken(answers) => answers.copy(alloc),
+            Remains::Broken(answers, _) => answers.copy(alloc),
             Remains::Dropped => Ok(WaitingAnswers::new(alloc)),
         }
     }
 
     /// Breaks the query if it runs: its operators and queues are gone, and its answers wait on.
-    /// Takes no memory.
-    pub(crate) fn give_up(&mut self)
+    /// They reach as far as `reach` says. Takes no memory.
+    pub(crate) fn give_up(&mut self, reach: Reach)
         ensures { (p : PlainQuery) → remains_of self.old ≡ Running p
-            → remains_of self.new ≡ Broken p.answers }
+            → remains_of self.new ≡ Broken p.answers reach.next }
     {
         match replace(self, Remains::Dropped) {
-            Remains::Running(query) => *self = Remains::Broken(query.into_answers()),
+            Remains::Running(query) => *self = Remains::Broken(query.into_answers(), reach),
             other => *self = other,
         }
     }

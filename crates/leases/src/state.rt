@@ -3,12 +3,15 @@
 mod backs;
 mod drain;
 mod finish;
+mod flats;
 mod forget;
 mod heartbeats;
 mod lease;
 mod looks;
 mod opening;
+mod passing;
 mod register;
+mod status;
 mod takes;
 
 use crate::reader::Reader;
@@ -45,8 +48,8 @@ pub(crate) struct State {
     /// Holds the slots of all operators of the running queries, in the order in which they are
     /// leased.
     slots: RunQueue,
-    /// Counts the stored rows of all streams, and what the last forgetting walked over: the waiting
-    /// answers that it copied, and the registered queries.
+    /// Counts the stored rows of all streams, and the queries over which the last forgetting
+    /// walked.
     stored: u64,
     /// Holds `stored` as the last forgetting left it, or as a later `tidy` met it that ran out of
     /// memory.

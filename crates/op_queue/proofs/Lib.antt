@@ -19,3 +19,4 @@ pub mod CountLemmas
 pub mod TakeLemmas
 pub mod GainLemmas
 pub mod FlatLemmas
+pub mod ClearLemmas

@@ -13,7 +13,7 @@ use Rattle.op_queue.specs.Tables.{IsRising, element_at, elements_in}
 use Rattle.op_queue.proofs.RunLemmas.{range_with_len-add}
 use Rattle.op_queue.proofs.SpanLemmas.{filter-no, filter-yes}
 
-filter-range_none : {X : Type 0} (p : X → Bool) (f : ℕ → X) (a n : ℕ) → ((i : ℕ) → a ≤ i → i < a + n → p (f i) ≡ false) → filter p (map f (range_with_len a n)) ≡ []
+pub filter-range_none : {X : Type 0} (p : X → Bool) (f : ℕ → X) (a n : ℕ) → ((i : ℕ) → a ≤ i → i < a + n → p (f i) ≡ false) → filter p (map f (range_with_len a n)) ≡ []
 filter-range_none p f a zero h = refl
 filter-range_none p f a (suc n) h =
     filter-no p (f a) (map f (range_with_len (a + 1) n)) (h a (omega arith) (omega arith)) ∙ filter-range_none p f (a + 1) n (λ i l u. h i (omega arith) (omega arith))

@@ -1,10 +1,11 @@
 -- The queue that a cursor stands for over its log.
-use Rattle.std.specs.Prelude.{◌≡◌, ℕ, ◌+◌, ◌≤◌, cond, max, nat_lt, List, [], ◌∷◌, ◌++◌, drop}
-use Rattle.std.specs.Prelude.{length}
+use Rattle.std.specs.Prelude.{◌≡◌, ℕ, zero, suc, ◌+◌, ◌-◌, ◌<◌, ◌≤◌, cond, max, nat_lt, List, []}
+use Rattle.std.specs.Prelude.{◌∷◌, ◌++◌, drop, length}
 use Rattle.values.specs.Row.{Row}
 use Rattle.values.specs.Window.{Element}
 use Rattle.op_queue.specs.Entries.{Entry, TickAt}
-use Rattle.op_queue.specs.Logs.{Closed, shown, row_entries, log_entries, span_entries}
+use Rattle.op_queue.specs.Logs.{Closed, HasNoRows, shown, row_entries, log_entries}
+use Rattle.op_queue.specs.Logs.{span_entries}
 use Rattle.op_queue.specs.declared.cursor.Cursor.{Cursor}
 
 -- what is left of the cursor's instant, and then the later instants
@@ -22,6 +23,23 @@ IsWithin c log = c.passed ≤ length (shown c.place c.at log.elements)
 pub record GoesOn (log : Closed) (old new : Cursor) : Type 0 where
   pub place : new.place ≡ old.place
   pub next : max new.at log.until ≡ max old.at log.until
+
+-- the ticks of d instants from n on
+abbrev pub ticks : ℕ → ℕ → List (Entry Row)
+ticks n zero = []
+ticks n (suc d) = TickAt n ∷ ticks (n + 1) d
+
+-- of some instants, those below b, nothing but the ticks waits, and they are closed
+pub record IsClear (b : ℕ) (log : Closed) (c : Cursor) : Type 0 where
+  pub before : c.at < b
+  pub closed : b ≤ log.until
+  pub none : HasNoRows c.at b log
+
+-- these ticks have left
+pub record HasLeft (b : ℕ) (log : Closed) (c d : Cursor) : Type 0 where
+  pub entries : cursor_entries c log ≡ ticks c.at (b - c.at) ++ cursor_entries d log
+  pub within : IsWithin d log
+  pub goes_on : GoesOn log c d
 
 -- the queue of every cursor gains the rows and ticks of
 -- the instants that the log closed, and nothing else

@@ -35,6 +35,10 @@ is_shown place t e = (e.instant == t) && nat_le place e.arrival
 abbrev pub shown : ℕ → ℕ → List Element → List Element
 shown place t es = filter (is_shown place t) es
 
+-- no element is of an instant from the one on to below the other
+pub record HasNoRows (start until : ℕ) (log : Closed) : Type 0 where
+  pub none : (place t : ℕ) → start ≤ t → t < until → shown place t log.elements ≡ []
+
 -- the element is of the instant `start` or later, and arrived at the place or later
 abbrev pub is_waiting : ℕ → ℕ → Element → Bool
 is_waiting place start e = nat_le start e.instant && nat_le place e.arrival

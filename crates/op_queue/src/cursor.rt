@@ -1,6 +1,6 @@
 //! Keeps cursors: the queues that queries read of a stream's log.
-ghost use Rattle.std.specs.Prelude.{◌≡◌, ◌<◌, ◌≤◌, length, drop, min, slice_range, IfOk, OnErr};
-ghost use Rattle.op_queue.specs.Cursors.{GoesOn, IsWithin, cursor_entries};
+ghost use Rattle.std.specs.Prelude.{◌≡◌, ℕ, ◌<◌, ◌≤◌, length, drop, min, slice_range, IfOk, OnErr};
+ghost use Rattle.op_queue.specs.Cursors.{GoesOn, HasLeft, IsClear, IsWithin, cursor_entries};
 ghost use Rattle.op_queue.specs.Items.{IsFrontPart, entries_of, first_instant, front_of};
 ghost use Rattle.op_queue.specs.Items.{front_part};
 ghost use Rattle.op_queue.specs.Logs.{Closed, log_entries, shown};
@@ -137,6 +137,27 @@ impl Cursor {
                 self.hint = to;
             }
         }
+    }
+
+    /// Returns an instant below which only ticks wait, if the one at the front is `start`. It does
+    /// not look further than the next row.
+    pub fn clear_until(&self, log: &Log, start: u64) -> u64
+        ensures { (b : ℕ) → start < b → b ≤ result
+            → (self.now.at ≡ start) × IsClear b log.now self.now }
+    {
+        if self.at != start {
+            return start;
+        }
+        log.next_row(self.hint, start).min(log.until())
+    }
+
+    /// Goes to an instant, over instants at which only ticks wait. These cost nothing.
+    pub fn pass(&mut self, until: u64)
+        ensures { (log : Closed) → IsClear until log self.old
+            → HasLeft until log self.old self.new }
+    {
+        self.at = until;
+        self.passed = 0;
     }
 
     /// Counts the rows and ticks that wait. It costs the log's rows of later instants.

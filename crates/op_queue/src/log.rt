@@ -6,7 +6,8 @@ ghost use Rattle.std.specs.List.{filter};
 ghost use Rattle.column.specs.Bits.{chosen};
 ghost use Rattle.values.specs.Row.{value_at};
 ghost use Rattle.op_queue.specs.Cursors.{GainsClosed};
-ghost use Rattle.op_queue.specs.Logs.{IsClosing, IsInOrder, entering, is_waiting, shown};
+ghost use Rattle.op_queue.specs.Logs.{HasNoRows, IsClosing, IsInOrder, entering, is_waiting};
+ghost use Rattle.op_queue.specs.Logs.{shown};
 ghost use Rattle.op_queue.specs.Tables.{IsLonger, IsRising, IsTableOf, KeepsFirst, arrived};
 ghost use Rattle.op_queue.specs.Tables.{column_of, elements_in, lists};
 
@@ -188,6 +189,20 @@ impl Log {
         let end = near_bound(&self.instants, first, self.len, at + 1);
         let from = near_bound(&self.numbers, first, end, place);
         (from, end)
+    }
+
+    /// Returns an instant before which no row is of an instant from `at` on: that of the first such
+    /// row, or the first open instant. The search starts at the hint where the rows before that
+    /// are of earlier instants.
+    pub(crate) fn next_row(&self, hint: usize, at: u64) -> u64
+        ensures { HasNoRows at result self.now }
+    {
+        let start = tested_start(&self.instants, self.len, hint, at);
+        let first = near_bound(&self.instants, start, self.len, at);
+        if first < self.len {
+            return self.instants[first];
+        }
+        self.until
     }
 
     /// Counts the rows of later instants that arrived at `place` or later.

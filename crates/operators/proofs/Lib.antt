@@ -2,3 +2,4 @@ pub mod InboxLemmas
 pub mod KindLemmas
 pub mod LatestLemmas
 pub mod InPlaceLemmas
+pub mod QuietLemmas

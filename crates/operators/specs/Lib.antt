@@ -3,3 +3,4 @@ pub mod Inboxes
 pub mod Operators
 pub mod Runs
 pub mod InPlace
+pub mod Passing

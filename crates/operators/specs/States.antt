@@ -61,7 +61,7 @@ near_of (Latest s) side i = near.Fallen (latest.near s i)
 near_of Nothing side i = near.Nothing
 near_of (Join s) side i = near.Met (join.near s side i)
 near_of (Groups s) side i = near.Groups (groups.near s i)
-near_of (Root s) side i = near.Sorted (root.near s i)
+near_of (Root s) side i = near.Lists (root.near s i)
 
 -- the item has the columns that the look-up of the excerpt asks for
 abbrev pub HasColumns : State → Side → Item → Type 0

@@ -1,11 +1,12 @@
 //! What waits for operators.
-ghost use Rattle.std.specs.Prelude.{◌≡◌, ◌<◌, ◌≤◌, ◌++◌, true, length, drop, IfOk, OnErr};
+ghost use Rattle.std.specs.Prelude.{◌≡◌, ℕ, ◌<◌, ◌≤◌, ◌++◌, true, length, drop, IfOk, OnErr};
 ghost use Rattle.std.specs.Prelude.{OnOk};
 ghost use Rattle.op_queue.specs.Entries.{IsForward};
 ghost use Rattle.op_queue.specs.Items.{IsFrontPart, entries_of, first_instant, front_of};
 ghost use Rattle.operators.specs.Inboxes.{IsDropped, IsInboxWithin, ReadsOn, all_begins};
 ghost use Rattle.operators.specs.Inboxes.{all_entries, begins_in, cut_of, entries_in, is_fed};
 ghost use Rattle.operators.specs.Inboxes.{queued};
+ghost use Rattle.operators.specs.Passing.{AreGone, MayLeave};
 
 use op_queue::{Cursor, Front, Item, Log, Queue};
 use std::alloc::{AllocError, Global};
@@ -93,6 +94,32 @@ impl Inbox {
         match self {
             Inbox::First(cursor) => cursor.drop_front(log, count),
             Inbox::Between(queue) => queue.drop_front(count),
+        }
+    }
+
+    /// Returns an instant below which only ticks wait, if the one at the front of a stream is
+    /// `start`. It is not above `start` if something waits in a queue between operators.
+    #[tactic(auto, using(crate::proofs::QuietLemmas::none_waits))]
+    pub fn clear_until(&self, log: &Log, start: u64) -> u64
+        ensures { (b : ℕ) → start < b → b ≤ result → MayLeave start b log.now self.now }
+    {
+        match self {
+            Inbox::First(cursor) => cursor.clear_until(log, start),
+            Inbox::Between(queue) => match queue.front_instant() {
+                Some(_) => start,
+                None => u64::MAX,
+            },
+        }
+    }
+
+    /// Goes to an instant, over instants at which only ticks wait. A queue between operators stays
+    /// as it is.
+    pub fn pass(&mut self, until: u64)
+        ensures { AreGone until self.old self.new }
+    {
+        match self {
+            Inbox::First(cursor) => cursor.pass(until),
+            Inbox::Between(_) => {}
         }
     }
 

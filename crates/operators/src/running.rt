@@ -1,5 +1,5 @@
 //! The operators of a running query.
-ghost use Rattle.std.specs.Prelude.{◌≡◌, ◌<◌, ◌≤◌, ◌++◌, [], true, length, IfOk, OnErr};
+ghost use Rattle.std.specs.Prelude.{◌≡◌, ℕ, ◌<◌, ◌≤◌, ◌++◌, [], true, length, IfOk, OnErr};
 ghost use Rattle.std.specs.Prelude.{OnOk};
 ghost use Rattle.std.specs.Arc.{arc_value};
 ghost use Rattle.op_queue.specs.Entries.{IsForward};
@@ -12,6 +12,7 @@ ghost use Rattle.operators.specs.Inboxes.{is_fed, queued};
 ghost use Rattle.operators.specs.Operators.{Belongs, HasNamedColumns, IsFed, IsFinished};
 ghost use Rattle.operators.specs.Operators.{KeepsBatches, inbox_of, other, ready};
 ghost use Rattle.operators.specs.Operators.{ready_at, waiting};
+ghost use Rattle.operators.specs.Passing.{IsPassed, IsQuiet, MayPass};
 ghost use Rattle.operators.specs.Runs.{HasPutTo, MayPut, is_root};
 ghost use Rattle.operators.specs.States.{FitsState, HasColumns, IsNext, Takes, near_of};
 ghost use Rattle.operators.specs.States.{last_in, usable};
@@ -186,6 +187,30 @@ impl Operator {
             Side::Left => self.left.push(items),
             Side::Right => self.right.push(items),
         }
+    }
+
+    /// Returns an instant up to which the operator may pass from `start` on, since there is nothing
+    /// to do. It is not above `start` where it may not.
+    pub fn quiet_until(&self, log: &Log, start: u64) -> u64
+        ensures { (b : ℕ) → start < b → b ≤ result → MayPass start b log.now self.now }
+    {
+        if self.right.front_instant(log).is_some() {
+            return start;
+        }
+        let left = self.left.clear_until(log, start);
+        if left <= start {
+            return start;
+        }
+        left.min(self.state.quiet_until(start))
+    }
+
+    /// Passes to an instant, over those at which there is nothing to do.
+    pub fn pass(&mut self, until: u64)
+        requires { (start : ℕ) × IsQuiet start until self.old.state }
+        ensures { IsPassed until self.old self.new }
+    {
+        self.left.pass(until);
+        self.state.pass(until);
     }
 
     /// Returns how many rows and ticks wait on a side.

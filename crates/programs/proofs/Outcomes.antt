@@ -1,5 +1,5 @@
 -- What a run answers, and why it may not run.
-use Rattle.std.proofs.Common.{◌≡◌, ◌≢◌, ℕ, Bool, not, true, false, List, [], ◌∷◌, ◌++◌, Option, Some, Result, refl, ap, sym, ◌∙◌, subst, ◌⊎◌, inl, inr}
+use Rattle.std.proofs.Common.{◌≡◌, ◌≢◌, ℕ, Bool, not, true, false, List, [], ◌∷◌, ◌++◌, Option, Some, Result, refl, ap, sym, ◌∙◌, subst, ◌⊎◌, inl, inr, None}
 use Rattle.std.specs.Prelude.{⊤, codes, map, option_map}
 use Rattle.std.specs.List.{range_with_len}
 use Rattle.std.specs.Option.{option_to_list}
@@ -19,13 +19,16 @@ use Rattle.wire.proofs.Scripts.{begins_wider, says_all}
 use Rattle.command_lines.specs.CommandLine.{IsPlain, number_in, run_text}
 use Rattle.wire.specs.Printed.{Answer}
 use Rattle.histories.specs.Histories.{Entry, IsLegal}
+use Rattle.hub.specs.Audits.{IsAccounted, alone}
+use Rattle.hub.specs.Ledgers.{PlainLedger}
+use Rattle.hub.specs.Reached.{IsReachedBy}
 use Rattle.hub.specs.Seats.{IsAudited, PlainSeat, opened}
 use Rattle.hub.specs.Steps.{OpensAt}
 use Rattle.served.specs.Serving as of_seat
 use Rattle.served.specs.Serving.{PoolDrains}
 use Rattle.wire.specs.declared.fault.ScriptFault.{ScriptFault}
 use Rattle.wire.specs.declared.fault.ScriptFault.TheVariants.{Read, Write, Memory}
-use Rattle.programs.specs.Run.{Answers, IsAlone, MayRunOut, IsWrong, Leads, Shares, status_of, turn_of}
+use Rattle.programs.specs.Run.{Answers, IsAlone, IsKept, MayRunOut, IsWrong, Leads, Shares, SharesSettling, status_of, turn_of}
 
 pub says_begins : (N : Type 0) (w : World) (source old new : Option (List ℕ)) → Scripts (λ text written. Says N (requests_of text) (script w text) written) source old new
     → Scripts (λ text written. Begins N (requests_of text) (script w text) written) source old new
@@ -52,9 +55,9 @@ leads_nowhere N w status source old is = (
 )
 
 -- nothing was written
-pub answers_nothing : (N : Type 0) (w : World) (status : ℕ) (source old new : Option (List ℕ)) → status ≡ 3 → new ≡ old → Answers N w status source old new
+pub answers_nothing : (N : Type 0) (w : World) (status : ℕ) (source old new : Option (List ℕ)) → status ≢ 0 → new ≡ old → Answers N w status source old new
 answers_nothing N w status source old new is same = (
-  λ none. absurd (cc),
+  λ none. absurd (is none),
   λ text held is told. ([], same ∙ told ∙ ap Some (sym (append_nothing held)), says_all N w (requests_of text)),
 )
 
@@ -138,6 +141,87 @@ pub shares_asked : (words : List Text) (asked : Text) (o : Option ℕ) (workers 
 shares_asked words asked o workers turn status source old new says is found rows s =
     let same : workers ≡ number_in asked = some_same workers (number_in asked) (sym found ∙ says ∙ ap (option_map number_in) is) in
     subst (λ n. Shares (PoolDrains n (turn_of words)) status source old new) same (subst (λ t. Shares (PoolDrains workers t) status source old new) rows s)
+
+-- nothing was written by a seat that settles
+pub settling_nothing : (drains : Answer → Type 0) (status : ℕ) (source old new : Option (List ℕ)) → status ≢ 0 → new ≡ old → SharesSettling drains status source old new
+settling_nothing drains status source old new is same = (
+  λ none. absurd (is none),
+  λ text held is' told. ([], same ∙ told ∙ ap Some (sym (append_nothing held)), (opened 0, ([], requests_of text, [], false, refl, (refl, refl, refl)))),
+)
+
+-- a seat that settles carried out some of the requests, and no status tells that it were all
+pub settling_some : (drains : Answer → Type 0) (status : ℕ) (source old new : Option (List ℕ)) (first seat : PlainSeat) → first ≡ opened 0 → status ≢ 0
+    → Scripts (λ text written. of_seat.StandsSettling drains first (requests_of text) written seat) source old new → SharesSettling drains status source old new
+settling_some drains status source old new first seat fresh other s = (
+  λ none. absurd (other none),
+  λ text held is told.
+      let r = s text held is told in
+      (r.0, r.1, (seat, subst (λ (f : PlainSeat). of_seat.StandsSettling drains f (requests_of text) r.0 seat) fresh r.2)),
+)
+
+settling_stands : (drains : Answer → Type 0) (source old new : Option (List ℕ)) (first seat : PlainSeat) (forgot : Bool) → Scripts (λ text written. of_seat.RunsSettling drains first (requests_of text) written forgot seat) source old new
+    → Scripts (λ text written. of_seat.StandsSettling drains first (requests_of text) written seat) source old new
+settling_stands drains source old new first seat forgot s text held is told =
+    let r = s text held is told in
+    let run = subst (λ t. of_seat.RunsSettling drains first (requests_of text) t forgot seat) (sym (append_nothing r.0)) r.2 in
+    (r.0, r.1, (requests_of text, [], [], forgot, sym (append_none (requests_of text)), run))
+
+-- a seat that settles carried out all requests, and a status tells nothing of it
+pub settling_differing : (drains : Answer → Type 0) (status : ℕ) (source old new : Option (List ℕ)) (first seat : PlainSeat) (forgot : Bool) → first ≡ opened 0 → status ≢ 0
+    → Scripts (λ text written. of_seat.RunsSettling drains first (requests_of text) written forgot seat) source old new → SharesSettling drains status source old new
+settling_differing drains status source old new first seat forgot fresh other s =
+    settling_some drains status source old new first seat fresh other (settling_stands drains source old new first seat forgot s)
+
+-- a seat that settles carried out all requests, and its calls were compared
+pub settling_all : (drains : Answer → Type 0) (status : ℕ) (source old new : Option (List ℕ)) (first seat : PlainSeat) (forgot : Bool) → first ≡ opened 0 → IsKept seat
+    → Scripts (λ text written. of_seat.RunsSettling drains first (requests_of text) written forgot seat) source old new → SharesSettling drains status source old new
+settling_all drains status source old new first seat forgot fresh kept s = (
+  λ none text held is told.
+      let r = s text held is told in
+      (r.0, r.1, (seat, forgot, subst (λ (f : PlainSeat). of_seat.RunsSettling drains f (requests_of text) r.0 forgot seat) fresh r.2, kept)),
+  λ text held is told.
+      let r = settling_stands drains source old new first seat forgot s text held is told in
+      (r.0, r.1, (seat, subst (λ (f : PlainSeat). of_seat.StandsSettling drains f (requests_of text) r.0 seat) fresh r.2)),
+)
+
+-- put back, and compared with the history
+pub is_kept : (opening : Machine) (first : ℕ) (entries : List Entry) (l : PlainLedger) (seats rest : List PlainSeat) (count : ℕ) (seat : PlainSeat) → rest ≡ [] → seats ≡ rest ++ seat ∷ [] → count ≡ 1
+    → IsLegal opening entries → OpensAt first opening → IsReachedBy first opening → IsAccounted l seats count first entries → alone l seats first ≡ 0 → IsKept seat
+is_kept opening first entries l seats rest count seat empty_rest pushed one legal opens reached accounted none =
+    let all : seats ≡ seat ∷ [] = pushed ∙ ap (λ (r : List PlainSeat). r ++ seat ∷ []) empty_rest in (
+      opening,
+      first,
+      entries,
+      l,
+      legal,
+      opens,
+      reached,
+      subst (λ (s : List PlainSeat). IsAccounted l s 1 first entries) all (subst (λ n. IsAccounted l seats n first entries) one accounted),
+      subst (λ (s : List PlainSeat). alone l s first ≡ 0) all none,
+    )
+
+-- the workers and the rows of a turn are those that the words ask for
+pub settling_asked : (words : List Text) (asked : Text) (o : Option ℕ) (workers turn : ℕ) (status : ℕ) (source old new : Option (List ℕ))
+    → o ≡ option_map number_in (run_text (codes "workers") words) → run_text (codes "workers") words ≡ Some asked → o ≡ Some workers → turn ≡ turn_of words
+    → SharesSettling (PoolDrains workers turn) status source old new → SharesSettling (PoolDrains (number_in asked) (turn_of words)) status source old new
+settling_asked words asked o workers turn status source old new says is found rows s =
+    let same : workers ≡ number_in asked = some_same workers (number_in asked) (sym found ∙ says ∙ ap (option_map number_in) is) in
+    subst (λ n. SharesSettling (PoolDrains n (turn_of words)) status source old new) same (subst (λ t. SharesSettling (PoolDrains workers t) status source old new) rows s)
+
+-- an option whose number was read is among the words
+pub is_asked : (o : Option Text) (r : Option ℕ) (v : ℕ) → r ≡ option_map number_in o → r ≡ Some v → o ≢ None
+is_asked None r v said is none = cc
+is_asked (Some t) r v said is none = cc
+
+pub is_not_asked : (o : Option Text) (r : Option ℕ) → r ≡ option_map number_in o → r ≡ None → o ≡ None
+is_not_asked None r said is = refl
+is_not_asked (Some t) r said is = cc
+
+pub two_tells : (status : ℕ) → status ≡ 2 → status ≢ 0
+two_tells status is none = cc
+
+pub three_tells : (status : ℕ) → status ≡ 3 → status ≢ 0
+three_tells status is none = cc
 
 pub one_tells : (status : ℕ) → status ≡ 1 → status ≢ 0
 one_tells status is none = cc

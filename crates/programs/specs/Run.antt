@@ -13,10 +13,13 @@ use Rattle.wire.specs.Script.{script, Says, Begins, Runs, Scripts, Stands}
 use Rattle.wire.specs.Printed.{Answer}
 use Rattle.command_lines.specs.CommandLine.{number_or, run_text}
 use Rattle.histories.specs.Histories.{Entry, IsLegal}
+use Rattle.hub.specs.Audits.{IsAccounted, alone}
+use Rattle.hub.specs.Ledgers.{PlainLedger}
+use Rattle.hub.specs.Reached.{IsReachedBy}
 use Rattle.hub.specs.Seats.{IsAudited, PlainSeat, opened}
 use Rattle.hub.specs.Steps.{OpensAt}
-use Rattle.served.specs.Errors.{IsTold, accept_line, bind_line, close_line, memory_line}
-use Rattle.served.specs.Errors.{thread_line}
+use Rattle.served.specs.Errors.{IsTold, accept_line, audit_line, bind_line, close_line}
+use Rattle.served.specs.Errors.{memory_line, thread_line}
 use Rattle.served.specs.Serving as of_seat
 
 -- At the status 0 the sink took the script's text of what the source gave, and else a beginning of
@@ -75,6 +78,24 @@ Shares drains status source old new =
     × Scripts (λ text written. (seat : PlainSeat)
     × of_seat.Stands drains (opened 0) (requests_of text) written seat) source old new
 
+-- Every accepted call of the only seat was compared with the history once, by value: when it
+-- settled, or at the end. The history is legal from an opening that accepted commands led to.
+abbrev pub IsKept : PlainSeat → Type 0
+IsKept seat =
+    (opening : Machine) × (first : ℕ) × (entries : List Entry) × (l : PlainLedger)
+    × IsLegal opening entries × OpensAt first opening × IsReachedBy first opening
+    × IsAccounted l (seat ∷ []) 1 first entries × (alone l (seat ∷ []) first ≡ 0)
+
+-- The same as `Shares`, of a seat that settles: at the status 0 all its calls were compared.
+abbrev pub SharesSettling : (Answer → Type 0) → ℕ → Option (List ℕ) → Option (List ℕ)
+    → Option (List ℕ) → Type 0
+SharesSettling drains status source old new =
+    (status ≡ 0 → Scripts (λ text written. (seat : PlainSeat) × (forgot : Bool)
+    × of_seat.RunsSettling drains (opened 0) (requests_of text) written forgot seat × IsKept seat)
+    source old new)
+    × Scripts (λ text written. (seat : PlainSeat)
+    × of_seat.StandsSettling drains (opened 0) (requests_of text) written seat) source old new
+
 -- the words ask for workers
 abbrev pub AsksWorkers : List Text → Type 0
 AsksWorkers words = run_text (codes "workers") words ≢ None
@@ -129,7 +150,7 @@ Differs reads source source' writes sink sink' told =
 
 -- what is told where a server ends with the status 1
 abbrev pub IsServerFailure : (List ℕ → Type 0) → Type 0
-IsServerFailure told = told bind_line ⊎ (told accept_line ⊎ told close_line)
+IsServerFailure told = told bind_line ⊎ (told accept_line ⊎ told audit_line ⊎ told close_line)
 
 -- and with the status 3
 abbrev pub IsServerLack : (List ℕ → Type 0) → Type 0

@@ -6,16 +6,17 @@ ghost use Rattle.reference.specs.World.{IsTurnSize};
 ghost use Rattle.wire.specs.Devices.{Rises};
 ghost use Rattle.wire.specs.Requests.{requests_of};
 ghost use Rattle.wire.specs.Script.{Scripts, TellsScarcity};
-ghost use Rattle.command_lines.specs.CommandLine.{AsksBoth, IsPlain, number_in, refusals};
-ghost use Rattle.command_lines.specs.CommandLine.{run_text};
+ghost use Rattle.command_lines.specs.CommandLine.{AsksBoth, ForgetsAlone, IsPlain, number_in};
+ghost use Rattle.command_lines.specs.CommandLine.{refusals, run_text};
 ghost use Rattle.served.specs.Errors.{IsTold};
 ghost use Rattle.served.specs.Serving.{PoolDrains};
 ghost use Rattle.programs.specs.Run.{Answers, AsksWorkers, Differs, Failed, IsOfRun, IsOfWrong};
-ghost use Rattle.programs.specs.Run.{IsWrong, Leads, MayRunOut, Shares, ToldSome, fault_line};
+ghost use Rattle.programs.specs.Run.{IsWrong, Leads, MayRunOut, Shares, SharesSettling};
+ghost use Rattle.programs.specs.Run.{ToldSome, fault_line};
 ghost use Rattle.programs.specs.Run.{turn_of};
 
 use crate::faults::{WRONG_WORDS, fail, lack_memory, tell};
-use crate::shared::run_shared;
+use crate::shared::run_workers;
 use clap::Error;
 use clap::error::ErrorKind;
 use command_lines::{WordsFault, run_options};
@@ -157,6 +158,15 @@ fn refuse_both<E: Sink>(errors: &mut E) -> u8
     WRONG_WORDS
 }
 
+// Says that only a hub forgets.
+fn refuse_to_forget<E: Sink>(errors: &mut E) -> u8
+    ensures status { result ≡ 2 }
+    ensures told { ToldSome E.taken E.failures errors.old errors.new }
+{
+    tell(errors, "cqlrun: --forget wants --workers\n");
+    WRONG_WORDS
+}
+
 /// Runs `cqlrun`, and returns its status. The first of the words is the program's own name.
 ///
 /// It does `run_over` an engine without streams or queries, by turns of at most as many rows as the
@@ -190,16 +200,27 @@ pub fn run<'a, R: Threads + Wait + Sync, S: AsStr, I: Source, O: Sink, E: Sink>(
         (O.taken sink.old) (O.taken sink.new) }
     ensures shares { (workers : Text) → refusals (map S.text words.entry.now) ≡ []
         → run_text (codes "workers") (map S.text words.entry.now) ≡ Some workers
+        → run_text (codes "forget") (map S.text words.entry.now) ≡ None
         → ¬ IsPlain (map S.text words.entry.now)
         → Shares (PoolDrains (number_in workers) (turn_of (map S.text words.entry.now))) result
         (I.left source.old) (O.taken sink.old) (O.taken sink.new) }
+    ensures settling { (workers : Text) → refusals (map S.text words.entry.now) ≡ []
+        → run_text (codes "workers") (map S.text words.entry.now) ≡ Some workers
+        → run_text (codes "forget") (map S.text words.entry.now) ≢ None
+        → ¬ IsPlain (map S.text words.entry.now)
+        → SharesSettling (PoolDrains (number_in workers) (turn_of (map S.text words.entry.now)))
+        result (I.left source.old) (O.taken sink.old) (O.taken sink.new) }
     ensures status { refusals (map S.text words.entry.now) ≡ []
-        → ¬ AsksBoth (map S.text words.entry.now) → IsOfRun result }
+        → ¬ AsksBoth (map S.text words.entry.now) → ¬ ForgetsAlone (map S.text words.entry.now)
+        → IsOfRun result }
     ensures help { refusals (map S.text words.entry.now) ≡ ErrorKind.DisplayHelp ∷ []
         → IsOfRun result }
     ensures wrong { IsWrong (refusals (map S.text words.entry.now)) → IsOfWrong result
         × (sink.new ≡ sink.old) }
     ensures both { AsksBoth (map S.text words.entry.now)
+        → refusals (map S.text words.entry.now) ≡ []
+        → IsOfWrong result × (source.new ≡ source.old) × (sink.new ≡ sink.old) }
+    ensures alone { ForgetsAlone (map S.text words.entry.now)
         → refusals (map S.text words.entry.now) ≡ []
         → IsOfWrong result × (source.new ≡ source.old) × (sink.new ≡ sink.old) }
     ensures unread { refusals (map S.text words.entry.now) ≢ [] → source.new ≡ source.old }
@@ -220,9 +241,19 @@ pub fn run<'a, R: Threads + Wait + Sync, S: AsStr, I: Source, O: Sink, E: Sink>(
         Ok(options) => options,
         Err(WordsFault::Words(error)) => return refuse(alloc, &error, sink, errors),
         Err(WordsFault::PlainWithWorkers) => return refuse_both(errors),
+        Err(WordsFault::ForgetWithoutWorkers) => return refuse_to_forget(errors),
     };
     if let Some(workers) = options.workers {
-        return run_shared(rt, alloc, workers, options.turn, source, sink, errors);
+        return run_workers(
+            rt,
+            alloc,
+            workers,
+            options.turn,
+            options.forget,
+            source,
+            sink,
+            errors,
+        );
     }
     if !options.is_plain {
         let engine = Engine::new(alloc);

@@ -1,22 +1,58 @@
 //! Runs scripts over a hub of one seat.
-ghost use Rattle.std.specs.Prelude.{◌≡◌, ◌≢◌, ◌⊎◌, false, true};
+ghost use Rattle.std.specs.Prelude.{◌≡◌, ◌≢◌, ◌⊎◌, None, false, true};
 ghost use Rattle.reference.specs.World.{IsTurnSize};
 ghost use Rattle.served.specs.Errors.{IsTold};
 ghost use Rattle.served.specs.Serving.{PoolDrains};
-ghost use Rattle.programs.specs.Run.{Differs, Failed, IsOfRun, Shares, fault_line};
+ghost use Rattle.programs.specs.Run.{Differs, Failed, IsOfRun, Shares, SharesSettling};
+ghost use Rattle.programs.specs.Run.{fault_line};
 
 use crate::faults::{differ, fail, lack_memory};
 use hub::{Hub, MAX_HISTORY};
-use served::run_hub;
+use served::{Connection, run_hub};
 use std::alloc::Global;
 use std::sync::Wait;
 use std::thread::Threads;
 use wire::{ScriptFault, Sink, Source};
 
-/// Answers the lines of the source over a hub without streams or queries. A pool of `workers`
-/// threads runs each drain, by turns of at most `turn` rows. At the end the hub is closed, which
-/// compares the seat's receipts with the history. It compares all of them, unless a request to
-/// forget was answered `ok`.
+/// Runs by a pool of `workers` threads: as `run_shared` does, or as `run_forgetting` does if a
+/// number of values is given.
+pub(crate) fn run_workers<R: Threads + Wait + Sync, I: Source, O: Sink, E: Sink>(
+    rt: &R,
+    alloc: Global,
+    workers: u32,
+    turn: u32,
+    forget: Option<u64>,
+    source: &mut I,
+    sink: &mut O,
+    errors: &mut E,
+) -> u8
+    requires turn { IsTurnSize turn }
+    ensures shares { forget ≡ None → Shares (PoolDrains workers turn) result
+        (I.left source.old) (O.taken sink.old) (O.taken sink.new) }
+    ensures settling { forget ≢ None → SharesSettling (PoolDrains workers turn) result
+        (I.left source.old) (O.taken sink.old) (O.taken sink.new) }
+    ensures status { IsOfRun result }
+    ensures silent { result ≡ 0 → errors.new ≡ errors.old }
+    ensures sound { result ≢ 1 → (I.failures source.new ≡ I.failures source.old)
+        × (O.failures sink.new ≡ O.failures sink.old) }
+    ensures failed { result ≡ 1
+        → Failed I.failures source.old source.new O.failures sink.old sink.new
+        (IsTold E.taken E.failures errors.old errors.new)
+        ⊎ Differs I.failures source.old source.new O.failures sink.old sink.new
+        (IsTold E.taken E.failures errors.old errors.new) }
+    ensures memory { result ≡ 3 → (source.new ≡ source.old) × (sink.new ≡ sink.old)
+        × IsTold E.taken E.failures errors.old errors.new (fault_line ScriptFault.Memory) }
+{
+    match forget {
+        Some(values) => { run_forgetting(rt, alloc, workers, turn, values, source, sink, errors) }
+        None => run_shared(rt, alloc, workers, turn, source, sink, errors),
+    }
+}
+
+/// Answers the lines of the source over a hub without streams or queries. A drain runs turns of at
+/// most `turn` rows in place, and a pool of `workers` threads what is left. At the end the hub is
+/// closed, which compares the seat's receipts with the history. It compares all of them, unless a
+/// request to forget was answered `ok`.
 pub(crate) fn run_shared<R: Threads + Wait + Sync, I: Source, O: Sink, E: Sink>(
     rt: &R,
     alloc: Global,
@@ -72,6 +108,69 @@ pub(crate) fn run_shared<R: Threads + Wait + Sync, I: Source, O: Sink, E: Sink>(
         }
         Err(_) => differ(errors),
     }
+}
+
+/// Does what `run_shared` does, by a seat that settles. Its hub forgets by itself after `forget`
+/// values; at 0 it forgets only if a request asks. Every accepted call is compared with the
+/// history once, by value: when the seat settles, or at the end. If one is not, since the seat
+/// differed before a request to forget, that is a difference too.
+pub(crate) fn run_forgetting<R: Threads + Wait + Sync, I: Source, O: Sink, E: Sink>(
+    rt: &R,
+    alloc: Global,
+    workers: u32,
+    turn: u32,
+    forget: u64,
+    source: &mut I,
+    sink: &mut O,
+    errors: &mut E,
+) -> u8
+    requires turn { IsTurnSize turn }
+    ensures shares { SharesSettling (PoolDrains workers turn) result (I.left source.old)
+        (O.taken sink.old) (O.taken sink.new) }
+    ensures status { IsOfRun result }
+    ensures silent { result ≡ 0 → errors.new ≡ errors.old }
+    ensures sound { result ≢ 1 → (I.failures source.new ≡ I.failures source.old)
+        × (O.failures sink.new ≡ O.failures sink.old) }
+    ensures failed { result ≡ 1
+        → Failed I.failures source.old source.new O.failures sink.old sink.new
+        (IsTold E.taken E.failures errors.old errors.new)
+        ⊎ Differs I.failures source.old source.new O.failures sink.old sink.new
+        (IsTold E.taken E.failures errors.old errors.new) }
+    ensures memory { result ≡ 3 → (source.new ≡ source.old) × (sink.new ≡ sink.old)
+        × IsTold E.taken E.failures errors.old errors.new (fault_line ScriptFault.Memory) }
+{
+    let Ok((hub, mut seats)) = Hub::open(alloc, 1, MAX_HISTORY) else {
+        return lack_memory(errors);
+    };
+    let Some(mut seat) = seats.pop() else {
+        return lack_memory(errors);
+    };
+    let connection = Connection::new(rt, alloc, &hub, turn, forget);
+    let ran = connection.run(source, sink, &mut seat, workers as u64);
+    drop(connection);
+    let _forgot = match ran {
+        Ok(forgot) => forgot,
+        Err(fault) => return fail(errors, &fault),
+    };
+    seats.push_reserved(seat);
+    match hub.close(seats) {
+        Ok(audited) => {
+            if are_compared(audited.by_number) {
+                0
+            } else {
+                differ(errors)
+            }
+        }
+        Err(_) => differ(errors),
+    }
+}
+
+// Returns whether every call was compared by value, if so many were compared by their number.
+fn are_compared(by_number: u64) -> bool
+    ensures all { result ≡ true → by_number ≡ 0 }
+    ensures none { by_number ≡ 0 → result ≡ true }
+{
+    by_number == 0
 }
 
 // Returns whether the seat has all its receipts, and every entry that is lost was given up by a

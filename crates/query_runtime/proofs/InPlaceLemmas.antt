@@ -42,49 +42,49 @@ puts_of kind.RangeWindow side i (near.Sliding rows) h = record { outs = _; is = 
 puts_of kind.RangeWindow side i (near.Fallen rows) h = record { outs = _; is = refl }
 puts_of kind.RangeWindow side i (near.Met rows) h = record { outs = _; is = refl }
 puts_of kind.RangeWindow side i (near.Groups rows) h = record { outs = _; is = refl }
-puts_of kind.RangeWindow side i (near.Sorted rows) h = record { outs = _; is = refl }
+puts_of kind.RangeWindow side i (near.Lists lists) h = record { outs = _; is = refl }
 puts_of kind.SlideWindow side i near.Nothing h = record { outs = _; is = refl }
 puts_of kind.SlideWindow side i (near.Leaving rows) h = record { outs = _; is = refl }
 puts_of kind.SlideWindow side i (near.Sliding rows) h = record { outs = _; is = refl }
 puts_of kind.SlideWindow side i (near.Fallen rows) h = record { outs = _; is = refl }
 puts_of kind.SlideWindow side i (near.Met rows) h = record { outs = _; is = refl }
 puts_of kind.SlideWindow side i (near.Groups rows) h = record { outs = _; is = refl }
-puts_of kind.SlideWindow side i (near.Sorted rows) h = record { outs = _; is = refl }
+puts_of kind.SlideWindow side i (near.Lists lists) h = record { outs = _; is = refl }
 puts_of kind.LatestWindow side i near.Nothing h = record { outs = _; is = refl }
 puts_of kind.LatestWindow side i (near.Leaving rows) h = record { outs = _; is = refl }
 puts_of kind.LatestWindow side i (near.Sliding rows) h = record { outs = _; is = refl }
 puts_of kind.LatestWindow side i (near.Fallen rows) h = record { outs = _; is = refl }
 puts_of kind.LatestWindow side i (near.Met rows) h = record { outs = _; is = refl }
 puts_of kind.LatestWindow side i (near.Groups rows) h = record { outs = _; is = refl }
-puts_of kind.LatestWindow side i (near.Sorted rows) h = record { outs = _; is = refl }
+puts_of kind.LatestWindow side i (near.Lists lists) h = record { outs = _; is = refl }
 puts_of (kind.Select steps) side i near.Nothing h = record { outs = _; is = refl }
 puts_of (kind.Select steps) side i (near.Leaving rows) h = record { outs = _; is = refl }
 puts_of (kind.Select steps) side i (near.Sliding rows) h = record { outs = _; is = refl }
 puts_of (kind.Select steps) side i (near.Fallen rows) h = record { outs = _; is = refl }
 puts_of (kind.Select steps) side i (near.Met rows) h = record { outs = _; is = refl }
 puts_of (kind.Select steps) side i (near.Groups rows) h = record { outs = _; is = refl }
-puts_of (kind.Select steps) side i (near.Sorted rows) h = record { outs = _; is = refl }
+puts_of (kind.Select steps) side i (near.Lists lists) h = record { outs = _; is = refl }
 puts_of (kind.Project columns) side i near.Nothing h = record { outs = _; is = refl }
 puts_of (kind.Project columns) side i (near.Leaving rows) h = record { outs = _; is = refl }
 puts_of (kind.Project columns) side i (near.Sliding rows) h = record { outs = _; is = refl }
 puts_of (kind.Project columns) side i (near.Fallen rows) h = record { outs = _; is = refl }
 puts_of (kind.Project columns) side i (near.Met rows) h = record { outs = _; is = refl }
 puts_of (kind.Project columns) side i (near.Groups rows) h = record { outs = _; is = refl }
-puts_of (kind.Project columns) side i (near.Sorted rows) h = record { outs = _; is = refl }
+puts_of (kind.Project columns) side i (near.Lists lists) h = record { outs = _; is = refl }
 puts_of kind.Join side i near.Nothing h = record { outs = _; is = refl }
 puts_of kind.Join side i (near.Leaving rows) h = record { outs = _; is = refl }
 puts_of kind.Join side i (near.Sliding rows) h = record { outs = _; is = refl }
 puts_of kind.Join side i (near.Fallen rows) h = record { outs = _; is = refl }
 puts_of kind.Join side i (near.Met rows) h = record { outs = _; is = refl }
 puts_of kind.Join side i (near.Groups rows) h = record { outs = _; is = refl }
-puts_of kind.Join side i (near.Sorted rows) h = record { outs = _; is = refl }
+puts_of kind.Join side i (near.Lists lists) h = record { outs = _; is = refl }
 puts_of (kind.Group g) side i near.Nothing h = record { outs = _; is = refl }
 puts_of (kind.Group g) side i (near.Leaving rows) h = record { outs = _; is = refl }
 puts_of (kind.Group g) side i (near.Sliding rows) h = record { outs = _; is = refl }
 puts_of (kind.Group g) side i (near.Fallen rows) h = record { outs = _; is = refl }
 puts_of (kind.Group g) side i (near.Met rows) h = record { outs = _; is = refl }
 puts_of (kind.Group g) side i (near.Groups rows) h = record { outs = _; is = refl }
-puts_of (kind.Group g) side i (near.Sorted rows) h = record { outs = _; is = refl }
+puts_of (kind.Group g) side i (near.Lists lists) h = record { outs = _; is = refl }
 puts_of kind.ToStream side i n h = absurd (cc)
 
 gives_of : (k : Kind) (side : Side) (i : Item) (n : Near) → is_root k ≡ true → GivesOut k side i n
@@ -101,7 +101,7 @@ gives_of kind.ToStream side i (near.Sliding rows) h = record { rows = _; is = re
 gives_of kind.ToStream side i (near.Fallen rows) h = record { rows = _; is = refl }
 gives_of kind.ToStream side i (near.Met rows) h = record { rows = _; is = refl }
 gives_of kind.ToStream side i (near.Groups rows) h = record { rows = _; is = refl }
-gives_of kind.ToStream side i (near.Sorted rows) h = record { rows = _; is = refl }
+gives_of kind.ToStream side i (near.Lists lists) h = record { rows = _; is = refl }
 
 -- WHAT THE OPERATOR asks, of a query that may run its turn of at most n rows
 module _ (streams : List Stream) (p : PlainQuery) (k : ℕ) (side : Side) (rows n : ℕ) (e : n ≡ min rows 1024) (can : CanRun streams p k side rows) where

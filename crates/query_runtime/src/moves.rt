@@ -1,7 +1,8 @@
 //! Makes the changes at one operator.
-ghost use Rattle.std.specs.Prelude.{◌≡◌, ◌<◌, length, min, IfErr, IfOk, OnErr, OnOk};
+ghost use Rattle.std.specs.Prelude.{◌≡◌, ℕ, ◌<◌, length, min, IfErr, IfOk, OnErr, OnOk};
 ghost use Rattle.operators.specs.Inboxes.{all_entries};
 ghost use Rattle.operators.specs.Operators.{IsFed, IsFinished, KeepsBatches};
+ghost use Rattle.operators.specs.Passing.{IsPassed, IsQuiet};
 ghost use Rattle.operators.specs.Runs.{GivesFirst, HasItem, HasRunBelow, HasRunRoot, MayPutFirst};
 ghost use Rattle.operators.specs.Runs.{MayRun, Stops};
 ghost use Rattle.laws_queries.specs.Queries.{MayFeed, operator_at, stream_log};
@@ -88,6 +89,31 @@ pub(crate) fn feed_at(
     ensures only { OnOk result (OnlyAt number operators.old.items operators.new.items) }
 {
     operators[number].feed(side, items)
+}
+
+/// Lets each operator pass to an instant.
+pub(crate) fn pass_all(operators: &mut Vec<Operator>, until: u64)
+    requires { (k : ℕ) → k < length operators.old.items
+        → (n : ℕ) × IsQuiet n until (operator_at operators.old.items k).state }
+    ensures many { length operators.new.items ≡ length operators.old.items }
+    ensures each { (k : ℕ) → k < length operators.old.items
+        → IsPassed until (operator_at operators.old.items k)
+        (operator_at operators.new.items k) }
+{
+    for number in 0..operators.len() {
+        pass_at(operators, number, until);
+    }
+}
+
+/// Lets the operator of a number pass to an instant.
+fn pass_at(operators: &mut Vec<Operator>, number: usize, until: u64)
+    requires here { number < length operators.old.items }
+    requires quiet { (n : ℕ) × IsQuiet n until (operator_at operators.old.items number).state }
+    ensures passed { IsPassed until (operator_at operators.old.items number)
+        (operator_at operators.new.items number) }
+    ensures only { OnlyAt number operators.old.items operators.new.items }
+{
+    operators[number].pass(until);
 }
 
 /// Runs a turn of the operator of a number. Its outputs go where the wire leads, to an operator

@@ -1,6 +1,6 @@
 //! Keeps running queries.
-ghost use Rattle.std.specs.Prelude.{◌≡◌, ◌<◌, ◌-◌, [], false, true, length, All, IfErr, IfOk};
-ghost use Rattle.std.specs.Prelude.{OnErr, OnOk};
+ghost use Rattle.std.specs.Prelude.{◌≡◌, ℕ, ◌<◌, ◌≤◌, ◌-◌, [], false, true, length, All, IfErr};
+ghost use Rattle.std.specs.Prelude.{IfOk, OnErr, OnOk};
 ghost use Rattle.std.specs.Arc.{arc_value};
 ghost use Rattle.turn.specs.Turns.{outs_in};
 ghost use Rattle.operators.specs.Inboxes.{all_entries};
@@ -13,15 +13,20 @@ ghost use Rattle.reference.specs.CallViews.{handed_of};
 ghost use Rattle.reference.specs.Inputs.{are_signed};
 ghost use Rattle.reference.specs.World.{handed};
 ghost use Rattle.laws_queries.specs.Queries.{operator_at};
+ghost use Rattle.operators.specs.Passing.{MayPass};
+ghost use Rattle.query_runtime.specs.Passing.{AreQuiet, HasOperators, HavePassed, MayPassAll};
 ghost use Rattle.query_runtime.specs.Runs.{CanRun, HasRun, HasRunItem};
 ghost use Rattle.query_runtime.specs.Turns.{CanFeed, CanFinish, CanLease, CanPut, HasAnswered};
 ghost use Rattle.query_runtime.specs.Turns.{HasFed, HasFinished, HasBatches, HasOperator, HasPut};
 ghost use Rattle.query_runtime.specs.Turns.{IsBeginning, IsLeased, handed_out, log_of, source_at};
 ghost use Rattle.query_runtime.specs.Turns.{taken, wire_at};
 
-use crate::moves::{feed_at, finish_at, leased, log_at, run_below_at, run_root_at, within_a_batch};
+use crate::moves::{
+    feed_at, finish_at, leased, log_at, pass_all, run_below_at, run_root_at, within_a_batch,
+};
 use crate::sources::sources_of;
 use crate::waiting::WaitingAnswers;
+use answer_rows::AnswerRows;
 use column::Side;
 use op_queue::{Item, Log};
 use operators::{Operator, Refused};
@@ -251,6 +256,45 @@ impl RunningQuery {
         self.run_below(alloc, streams, operator, side, rows)
     }
 
+    /// Returns an instant up to which the query may pass from `start` on, since there is nothing to
+    /// do. It is below `least` where it may not pass up to that. It looks at the operator `first`
+    /// first, and costs a look at each.
+    pub fn quiet_until(&self, streams: &Streams, first: usize, start: u64, least: u64) -> u64
+        requires here { first < length self.now.operators }
+        requires has { HasOperators streams.now self.now }
+        ensures { (b : ℕ) → start < b → b ≤ result → least ≤ result
+            → MayPassAll start b streams.now self.now }
+    {
+        let mut until = self.quiet_at(streams, first, start);
+        for operator in 0..self.operators.len() {
+            if until < least {
+                return until;
+            }
+            until = until.min(self.quiet_at(streams, operator, start));
+        }
+        until
+    }
+
+    /// Returns an instant up to which an operator may pass from `start` on.
+    fn quiet_at(&self, streams: &Streams, operator: usize, start: u64) -> u64
+        requires { HasOperator streams.now self.now operator }
+        ensures { (b : ℕ) → start < b → b ≤ result
+            → MayPass start b (log_of streams.now self.now operator)
+            (operator_at self.now.operators operator) }
+    {
+        let log = self.log(streams, operator);
+        self.operator(operator).quiet_until(log, start)
+    }
+
+    /// Passes to an instant, over those at which there is nothing to do. It costs a look at each
+    /// operator.
+    pub fn pass(&mut self, until: u64)
+        requires { AreQuiet until self.old }
+        ensures { HavePassed until self.old self.new }
+    {
+        pass_all(&mut self.operators, until);
+    }
+
     /// Returns the first answers that wait, at most `limit`, which no longer wait. It costs these.
     ///
     /// # Errors
@@ -263,6 +307,38 @@ impl RunningQuery {
         ensures err { OnErr result (self.new ≡ self.old) }
     {
         self.answers.take(alloc, limit)
+    }
+
+    /// Returns the first answers that wait, at most `limit`, in one flat list; they no longer wait.
+    /// It costs these.
+    ///
+    /// # Errors
+    /// `AllocError` when out of memory; then nothing has changed.
+    pub fn take_flat(&mut self, alloc: Global, limit: usize) -> Result<AnswerRows, AllocError>
+        requires { are_signed self.old.answers ≡ true }
+        ensures handed { IfOk result (λ rows. rows ≡ handed (taken limit self.old.answers)) }
+        ensures rest { OnOk result (self.new ≡ handed_out limit self.old) }
+        ensures err { OnErr result (self.new ≡ self.old) }
+    {
+        self.answers.take_flat(alloc, limit)
+    }
+
+    /// Drops the first answers that wait, at most `limit`, as a take would. It costs these.
+    pub fn drop_answers(&mut self, limit: usize)
+        ensures { self.new ≡ handed_out limit self.old }
+    {
+        self.answers.drop_first(limit);
+    }
+
+    /// Copies the first answers that wait, at most `limit`, into one flat list. It costs these.
+    ///
+    /// # Errors
+    /// `AllocError` when out of memory.
+    pub fn peek(&self, alloc: Global, limit: usize) -> Result<AnswerRows, AllocError>
+        requires { are_signed self.now.answers ≡ true }
+        ensures { IfOk result (λ rows. rows ≡ handed (taken limit self.now.answers)) }
+    {
+        self.answers.peek(alloc, limit)
     }
 
     /// Copies the answers that wait, at the cost of these.

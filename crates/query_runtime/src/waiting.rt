@@ -7,6 +7,7 @@ ghost use Rattle.reference.specs.Inputs.{are_signed};
 ghost use Rattle.reference.specs.World.{handed};
 ghost use Rattle.query_runtime.specs.Turns.{left_behind, taken};
 
+use answer_rows::AnswerRows;
 use column::Side;
 use op_queue::Log;
 use operators::{Operator, Refused};
@@ -110,6 +111,75 @@ impl WaitingAnswers {
         move_front(&mut self.answers, &mut rows, count);
         Ok(rows)
     }
+
+    /// Copies the first answers, at most `limit`, into one flat list; they wait on. It costs these.
+    ///
+    /// # Errors
+    /// `AllocError` when out of memory.
+    pub fn peek(&self, alloc: Global, limit: usize) -> Result<AnswerRows, AllocError>
+        requires { are_signed self.now ≡ true }
+        ensures { IfOk result (λ rows. rows ≡ handed (taken limit self.now)) }
+    {
+        let count = limit.min(self.answers.len());
+        let first = self.answers.copy_first(alloc, count)?;
+        flat_of(alloc, first)
+    }
+
+    /// Returns the first answers, at most `limit`, in one flat list; they no longer wait. It costs
+    /// these.
+    ///
+    /// # Errors
+    /// `AllocError` when out of memory; then nothing has changed.
+    pub fn take_flat(&mut self, alloc: Global, limit: usize) -> Result<AnswerRows, AllocError>
+        requires { are_signed self.old ≡ true }
+        ensures handed { IfOk result (λ rows. rows ≡ handed (taken limit self.old)) }
+        ensures rest { OnOk result (self.new ≡ left_behind limit self.old) }
+        ensures err { OnErr result (self.new ≡ self.old) }
+    {
+        let rows = self.peek(alloc, limit)?;
+        self.drop_first(limit);
+        Ok(rows)
+    }
+
+    /// Drops the first answers, at most `limit`, as a take would. It costs these.
+    pub fn drop_first(&mut self, limit: usize)
+        ensures { self.new ≡ left_behind limit self.old }
+    {
+        self.answers.drop_first(limit.min(self.answers.len()));
+    }
+}
+
+/// Moves the answers into one flat list.
+///
+/// # Errors
+/// `AllocError` when out of memory.
+fn flat_of(alloc: Global, mut answers: DatedRows) -> Result<AnswerRows, AllocError>
+    requires { are_signed answers ≡ true }
+    ensures { IfOk result (λ rows. rows ≡ handed answers) }
+{
+    let count = answers.len();
+    let mut row = Row::new();
+    let Some(at) = answers.pop_front_into(&mut row) else {
+        return Ok(AnswerRows::new(alloc));
+    };
+    let mut rows = AnswerRows::with_room(alloc, count, count.saturating_mul(row.len()))?;
+    rows.push(at as i64, &row)?;
+    push_all(&mut rows, &mut row, answers)?;
+    Ok(rows)
+}
+
+/// Appends the answers to the flat list. The row is only a place for them.
+fn push_all(rows: &mut AnswerRows, row: &mut Row, mut answers: DatedRows) -> Result<(), AllocError>
+    requires { are_signed answers ≡ true }
+    ensures { OnOk result (rows.new ≡ rows.old ++ handed answers) }
+{
+    for _ in 0..answers.len() {
+        match answers.pop_front_into(row) {
+            Some(at) => rows.push(at as i64, row.as_slice())?,
+            None => unreachable!(),
+        }
+    }
+    Ok(())
 }
 
 /// Moves the first `count` answers to the end of the rows, which have room for them.

@@ -1,6 +1,6 @@
 -- Inputs copied out of a stream, row by row, and answers over them.
-use Rattle.std.proofs.Common.{nat_lt, pos, drop, append_assoc, Result, Ok, Err, IfOk, ◌⊎◌, inl, inr, Vec, ◌≡◌, ◌≤◌, ◌<◌, ◌+◌, ◌-◌, ℕ, zero, suc, ℤ, Bool, true, false, ◌&&◌, nat_le, Option, Some, None, List, [], ◌∷◌, ◌++◌, length, map, take, get_or, min, fold, refl, sym, ap, ◌∙◌, arith}
-use Rattle.std.specs.List.{reduce, range_with_len, flat_map}
+use Rattle.std.proofs.Common.{nat_lt, pos, drop, append_assoc, Result, Ok, Err, IfOk, ◌⊎◌, inl, inr, Vec, ◌≡◌, ◌≤◌, ◌<◌, ◌+◌, ◌-◌, ℕ, zero, suc, ℤ, Bool, true, false, ◌&&◌, nat_le, Option, Some, None, List, [], ◌∷◌, ◌++◌, length, map, take, get_or, min, max, unwrap_or, fold, refl, sym, ap, ◌∙◌, arith}
+use Rattle.std.specs.List.{AllByRecursion, reduce, range_with_len, flat_map}
 use Rattle.std.proofs.lemmas.List.{map-append, drop_all, length-map}
 use Rattle.std.proofs.lemmas.List.Folds.{list_all-append}
 use Rattle.std.proofs.lemmas.Bool.{lt-ltb, ltb-true}
@@ -164,3 +164,31 @@ drop-next (suc k) [] y ys h = cc
 drop-next (suc k) (x ∷ xs) y ys h =
     let e : suc (k + 1) ≡ suc k + 1 = omega arith in
     drop-next k xs y ys h ∙ ap (λ n. drop n (x ∷ xs)) e
+
+-- an answer of the front is early, too, and one more is read
+pub signed-at : (i : ℕ) (es : Pairs) (x : ℕ × ArrayVec (Option ℤ)) → i < length es → x ≡ get_or es i x → are_signed (pairs_of es) ≡ true → x.0 < 0x8000_0000_0000_0000
+signed-at i [] x lt e h = absurd (omega (arith, lt))
+signed-at zero (y ∷ es) x lt e h = signed-first (y ∷ es) es x (ap (λ (z : ℕ × ArrayVec (Option ℤ)). z ∷ es) (sym e)) h
+signed-at (suc i) (y ∷ es) x lt e h = signed-at i es x (omega (arith, lt)) e (signed-rest (y ∷ es) es y refl h)
+
+pub front-more : (i : ℕ) (es : Pairs) (x : ℕ × ArrayVec (Option ℤ)) (rows new : List (ℤ × Row)) → i < length es → x ≡ get_or es i x
+    → rows ≡ handed (take i (pairs_of es)) → new ≡ rows ++ (pos x.0, x.1.items) ∷ [] → new ≡ handed (take (i + 1) (pairs_of es))
+front-more i es x rows new lt e before more =
+    more ∙ ap (λ (rs : List (ℤ × Row)). rs ++ (pos x.0, x.1.items) ∷ []) before ∙ one i es lt e
+  where
+    one : (i : ℕ) (es : Pairs) → i < length es → x ≡ get_or es i x → handed (take i (pairs_of es)) ++ (pos x.0, x.1.items) ∷ [] ≡ handed (take (i + 1) (pairs_of es))
+    one i [] lt e = absurd (omega (arith, lt))
+    one zero (y ∷ es) lt e = ap (λ (z : ℕ × ArrayVec (Option ℤ)). (pos z.0, z.1.items) ∷ []) e
+    one (suc i) (y ∷ es) lt e =
+        let k : suc i + 1 ≡ suc (i + 1) = omega arith in
+        ap (λ (rs : List (ℤ × Row)). (pos y.0, y.1.items) ∷ rs) (one i es (omega (arith, lt)) e)
+        ∙ ap (λ (n : ℕ). handed (take n (pairs_of (y ∷ es)))) (sym k)
+
+-- the greatest of early instants is early
+pub greatest-early : (b : ℕ) (xs : List ℕ) → AllByRecursion (λ n. n ≤ b) xs → unwrap_or (reduce max xs) 0 ≤ b
+greatest-early b [] h = omega arith
+greatest-early b (x ∷ xs) h = folded b x xs h.0 h.1
+  where
+    folded : (b x : ℕ) (xs : List ℕ) → x ≤ b → AllByRecursion (λ n. n ≤ b) xs → fold max x xs ≤ b
+    folded b x [] le h = le
+    folded b x (y ∷ xs) le h = folded b (max x y) xs (omega (arith, le, h.0)) h.1

@@ -1,12 +1,12 @@
 -- What a call answers, by the first test that it fails.
-use Rattle.std.proofs.Common.{◌≡◌, Bool, true, false, Option, Some, None, List, [], ◌∷◌, ◌++◌, Result, Ok, Err, refl, sym, ap, subst, ◌∙◌, set, get_or, length, ◌<◌, ℕ, zero, suc, ◌+◌, map, arith, OnOk, OnErr, take, drop, min}
+use Rattle.std.proofs.Common.{◌≡◌, Bool, true, false, Option, Some, None, List, [], ◌∷◌, ◌++◌, Result, Ok, Err, refl, sym, ap, ap₂, subst, ◌∙◌, set, get_or, length, ◌<◌, ℕ, zero, suc, ◌+◌, map, arith, OnOk, OnErr, take, drop, min}
 use Rattle.std.proofs.lemmas.List.{map-append}
 use Rattle.std.proofs.lemmas.Grind.{take-set_at}
 use Rattle.values.specs.Row.{Row}
 use Rattle.std.specs.Prelude.{slice_get, option_and_then}
 use Rattle.reference.specs.Machine.{Stream, Registered, unless_dropped}
 use Rattle.reference.specs.declared.standing.StandingQuery.{StandingQuery}
-use Rattle.reference.specs.Standing.{query_of, waiting_of, fresh_of}
+use Rattle.reference.specs.Standing.{query_of, waiting_of, upto_of, fresh_of}
 use Rattle.reference.specs.declared.fault.Fault.{Fault}
 use Rattle.reference.specs.declared.fault.Fault.TheVariants.{Query, BadName, NameTaken, BadColumns, TooMany, UnknownStream, UnknownQuery, BadWidth, ValueRange, InstantRange, Late, Backward, Leap, StreamFull, BadLimit, Broken, UnknownLease, Stranger, TooManyLeases, HistoryFull, OutOfMemory, Foreign}
 use Rattle.reference.specs.declared.fault.QueryFault.{QueryFault}
@@ -14,7 +14,7 @@ use Rattle.reference.specs.Commands.{Found, change, query_tests, of_stream, of_q
 use Rattle.names.specs.Faults.{first_of}
 use Rattle.reference.specs.Finds.{Finds}
 use Rattle.reference.specs.Told.{IsTold}
-use Rattle.reference.specs.World.{World, unless, Does, MayLackMemory}
+use Rattle.reference.specs.World.{World, unless, Does, Looks, MayLackMemory}
 
 module _ {A B : Type 0} (view : A → B) (w new : World) (a : B) where
   told : (f : Fault) → IsTold f → Does view w (unless (Some f) w a new) (Err f) w
@@ -101,9 +101,44 @@ module _ {A B : Type 0} (view : A → B) (w new : World) (a : B) where
       → None ≡ first_of (tests ++ query_tests found)
   registered_first tests found f e h = sym (passed tests (query_tests found) (sym e) ∙ ap (λ o. first_of (query_tests o)) h)
 
+-- a look, by the first test that it fails
+module _ {A B : Type 0} (view : A → B) (w new : World) (a : B) where
+  looks_told : (f : Fault) → IsTold f → Looks view (unless (Some f) w a new).0 (Err f)
+  looks_told (Query fault) t = refl
+  looks_told BadName t = refl
+  looks_told NameTaken t = refl
+  looks_told BadColumns t = refl
+  looks_told TooMany t = refl
+  looks_told UnknownStream t = refl
+  looks_told UnknownQuery t = refl
+  looks_told BadWidth t = refl
+  looks_told ValueRange t = refl
+  looks_told InstantRange t = refl
+  looks_told Late t = refl
+  looks_told Backward t = refl
+  looks_told Leap t = refl
+  looks_told StreamFull t = refl
+  looks_told BadLimit t = refl
+  looks_told Broken t = refl
+  looks_told UnknownLease t = refl
+  looks_told Stranger t = refl
+  looks_told HistoryFull t = refl
+  looks_told (Foreign entries) t = refl
+  looks_told TooManyLeases t = refl
+  looks_told OutOfMemory t = absurd t
+
+  pub look_refused : (first : Option Fault) (f : Fault) → Some f ≡ first → IsTold f → Looks view (unless first w a new).0 (Err f)
+  look_refused first f e t = subst (λ (o : Option Fault). Looks view (unless o w a new).0 (Err f)) e (looks_told f t)
+
+  pub look_done : (first : Option Fault) (r : A) → None ≡ first → view r ≡ a → Looks view (unless first w a new).0 (Ok r)
+  look_done first r e v = rw (sym e, v) refl
+
+  pub look_lacked : (first : Option Fault) → None ≡ first → Looks view (unless first w a new).0 (Err OutOfMemory)
+  look_lacked first e = rw (sym e) tt
+
 -- the world of streams and queries
 abbrev pub made : List Stream → List StandingQuery → World
-made streams qs = record { machine = record { streams = streams; queries = map query_of qs }; waiting = map waiting_of qs }
+made streams qs = record { machine = record { streams = streams; queries = map query_of qs }; waiting = map waiting_of qs; upto = map upto_of qs }
 
 -- an item changed in its place
 pub set-change : {X Y : Type 0} (v : X → Y) (f : Y → Y) (xs : List X) (n : ℕ) (x d : X) → n < length xs → v x ≡ f (v (get_or xs n d)) → map v (set xs n x) ≡ change n f (map v xs)
@@ -157,6 +192,19 @@ refreshed (q ∷ qs) (p ∷ old) (suc i) x d lt now before rest =
     let head : waiting_of q ≡ fresh_of p = cc in
     (ap (λ r. r ∷ map waiting_of (take (suc i) (set qs i x))) head ∙ ap (λ rs. fresh_of p ∷ rs) more.0, more.1)
 
+-- one query more is complete up to where its answers are closed, and the others stand as they stood
+pub reached : (u : Registered → ℕ) (qs old : List StandingQuery) (i : ℕ) (x d : StandingQuery) → i < length qs → upto_of x ≡ u (query_of (get_or qs i d))
+    → map upto_of (take i qs) ≡ map u (map query_of (take i old)) → drop i qs ≡ drop i old
+    → map upto_of (take (suc i) (set qs i x)) ≡ map u (map query_of (take (suc i) old))
+reached u [] old i x d lt now before rest = absurd (omega arith)
+reached u (q ∷ qs) [] zero x d lt now before rest = cc
+reached u (q ∷ qs) (p ∷ old) zero x d lt now before rest = cc
+reached u (q ∷ qs) [] (suc i) x d lt now before rest = cc
+reached u (q ∷ qs) (p ∷ old) (suc i) x d lt now before rest =
+    let tails : map upto_of (take i qs) ≡ map u (map query_of (take i old)) = cc in
+    let head : upto_of q ≡ u (query_of p) = cc in
+    ap₂ (λ (n : ℕ) (ns : List ℕ). n ∷ ns) head (reached u qs old i x d (omega arith) now tails rest)
+
 -- how many answers a take hands out
 pub handed_count : (qs : List StandingQuery) (n limit : ℕ) (d : StandingQuery) → n < length qs
     → min limit (length (waiting_of (get_or qs n d))) ≡ min limit (length (get_or (map waiting_of qs) n []))
@@ -174,10 +222,12 @@ query_in tests (x ∷ xs) zero h = omega arith
 query_in tests (x ∷ xs) (suc n) h = let k = query_in tests xs n h in omega arith
 
 -- a query more
-pub registered_world : (streams : List Stream) (qs : List StandingQuery) (x : StandingQuery) (r : Registered) → query_of x ≡ r → waiting_of x ≡ []
-    → made streams (qs ++ x ∷ []) ≡ record { machine = record { streams = streams; queries = map query_of qs ++ r ∷ [] }; waiting = map waiting_of qs ++ [] ∷ [] }
-registered_world streams qs x r named none =
-    let one : List Registered → World = λ v. record { machine = record { streams = streams; queries = v }; waiting = map waiting_of (qs ++ x ∷ []) } in
-    let two : List (List (ℕ × Row)) → World = λ v. record { machine = record { streams = streams; queries = map query_of qs ++ r ∷ [] }; waiting = v } in
+pub registered_world : (streams : List Stream) (qs : List StandingQuery) (x : StandingQuery) (r : Registered) (end : ℕ) → query_of x ≡ r → waiting_of x ≡ [] → upto_of x ≡ end
+    → made streams (qs ++ x ∷ []) ≡ record { machine = record { streams = streams; queries = map query_of qs ++ r ∷ [] }; waiting = map waiting_of qs ++ [] ∷ []; upto = map upto_of qs ++ end ∷ [] }
+registered_world streams qs x r end named none first =
+    let one : List Registered → World = λ v. record { machine = record { streams = streams; queries = v }; waiting = map waiting_of (qs ++ x ∷ []); upto = map upto_of (qs ++ x ∷ []) } in
+    let two : List (List (ℕ × Row)) → World = λ v. record { machine = record { streams = streams; queries = map query_of qs ++ r ∷ [] }; waiting = v; upto = map upto_of (qs ++ x ∷ []) } in
+    let three : List ℕ → World = λ v. record { machine = record { streams = streams; queries = map query_of qs ++ r ∷ [] }; waiting = map waiting_of qs ++ [] ∷ []; upto = v } in
     ap one (map-append query_of qs (x ∷ []) ∙ ap (λ (q : Registered). map query_of qs ++ q ∷ []) named)
     ∙ ap two (map-append waiting_of qs (x ∷ []) ∙ ap (λ (rows : List (ℕ × Row)). map waiting_of qs ++ rows ∷ []) none)
+    ∙ ap three (map-append upto_of qs (x ∷ []) ∙ ap (λ (n : ℕ). map upto_of qs ++ n ∷ []) first)

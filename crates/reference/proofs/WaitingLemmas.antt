@@ -1,5 +1,5 @@
 -- What waits at the queries of the plain engine stays what comes next.
-use Rattle.std.proofs.Common.{◌≡◌, ℕ, zero, suc, ◌+◌, ◌<◌, ◌≤◌, ◌++◌, Bool, true, false, cond, Some, None, Result, Ok, Err, OnOk, List, [], ◌∷◌, length, map, take, drop, get_or, set, refl, sym, ap, ap₂, ◌∙◌, subst, arith}
+use Rattle.std.proofs.Common.{◌≡◌, ℕ, zero, suc, ◌+◌, ◌<◌, ◌≤◌, ◌++◌, Bool, true, false, cond, Some, None, Result, Ok, Err, OnOk, OnErr, List, [], ◌∷◌, length, map, take, drop, get_or, set, refl, sym, ap, ap₂, ◌∙◌, subst, arith}
 use Rattle.std.specs.Prelude.{slice_get, option_and_then}
 use Rattle.std.specs.List.{AllByRecursion}
 use Rattle.std.proofs.lemmas.List.{drop-drop, take-append-drop, take-append-le}
@@ -7,7 +7,7 @@ use Rattle.values.specs.Row.{Row}
 use Rattle.reference.specs.Commands.{took}
 use Rattle.reference.specs.Machine.{Registered, Stream, closed_answers, unless_dropped}
 use Rattle.reference.specs.Places.{machine_of}
-use Rattle.reference.specs.Standing.{query_of, waiting_of}
+use Rattle.reference.specs.Standing.{query_of, waiting_of, upto_of}
 use Rattle.reference.specs.Waiting.{next_of, next_wait}
 use Rattle.reference.specs.World.{WaitingAreNext, untaken}
 use Rattle.reference.specs.declared.standing.StandingQuery.{StandingQuery}
@@ -99,6 +99,10 @@ pub on_ok₂ : {A E P Q R : Type 0} → (r : Result A E) → (P → Q → R) →
 on_ok₂ (Ok v) f h k = f h k
 on_ok₂ (Err e) f h k = tt
 
+pub on_err₂ : {A E P Q R : Type 0} → (r : Result A E) → (P → Q → R) → OnErr r P → OnErr r Q → OnErr r R
+on_err₂ (Ok v) f h k = tt
+on_err₂ (Err e) f h k = f h k
+
 pub set_unchanged : {X : Type 0} (xs : List X) (n : ℕ) (x d : X) → x ≡ get_or xs n d → set xs n x ≡ xs
 set_unchanged [] n x d h = refl
 set_unchanged (y ∷ xs) zero x d h = ap (λ z. z ∷ xs) h
@@ -145,7 +149,7 @@ at_query ss [] h n q is = cc
 at_query ss (p ∷ qs) h zero q is = subst (λ (r : Registered). IsNext ss r (waiting_of p)) (found_live (query_of p) q is) h.0
 at_query ss (p ∷ qs) h (suc n) q is = at_query ss qs h.1 n q is
 
-pub waiting_are_next : (ss : List Stream) (qs : List StandingQuery) → NextWait ss qs → WaitingAreNext (record { machine = record { streams = ss; queries = map query_of qs }; waiting = map waiting_of qs })
+pub waiting_are_next : (ss : List Stream) (qs : List StandingQuery) → NextWait ss qs → WaitingAreNext (record { machine = record { streams = ss; queries = map query_of qs }; waiting = map waiting_of qs; upto = map upto_of qs })
 waiting_are_next ss qs h = λ n q is.
     let ws = get_or (map waiting_of qs) n [] in
     let ys = drop q.taken (closed_answers (machine_of ss) q) in

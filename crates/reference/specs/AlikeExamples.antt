@@ -39,6 +39,7 @@ query = record {
   start = 0;
   earlier = [];
   taken = 0;
+  ever_taken = 0;
   is_dropped = false;
 }
 
@@ -86,8 +87,8 @@ answers_of_all = refl
 answers_of_the_opening : map (untaken opened) opened.queries ≡ waits ∷ []
 answers_of_the_opening = refl
 
-same_take : (take_step (record { machine = full; waiting = waits ∷ [] }) 0 (pos 1)).0
-    ≡ (take_step (record { machine = opened; waiting = waits ∷ [] }) 0 (pos 1)).0
+same_take : (take_step (record { machine = full; waiting = waits ∷ []; upto = 3 ∷ [] }) 0 (pos 1)).0
+    ≡ (take_step (record { machine = opened; waiting = waits ∷ []; upto = 3 ∷ [] }) 0 (pos 1)).0
 unfolding take_step
 same_take = refl
 

@@ -2,6 +2,8 @@ pub mod FaultTexts
 pub mod Machine
 pub mod Commands
 pub mod World
+pub mod Status
+pub mod StatusViews
 pub mod Replies
 pub mod Steps
 pub mod NewRows

@@ -1,6 +1,7 @@
 -- The machine at worked examples.
 use Rattle.std.proofs.Common.{arith}
-use Rattle.std.specs.Prelude.{◌≡◌, ℕ, false, true, [], ◌∷◌, Option, Some, None, Ok, ℤ, pos, refl}
+use Rattle.std.specs.Prelude.{◌≡◌, ℕ, false, true, [], ◌∷◌, Option, Some, None, Ok}
+use Rattle.std.specs.Prelude.{Err, ℤ, pos, negsuc, refl}
 use Rattle.cql_reader.specs.Lexis as words
 use Rattle.values.specs.Window.{Range}
 use Rattle.values.specs.Condition.{Column}
@@ -13,10 +14,11 @@ use Rattle.plan.specs.Build.{plan_of}
 use Rattle.plan.specs.Chart.{measures_of}
 use Rattle.reference.specs.Machine.{Machine, Place, Stream, Registered}
 use Rattle.reference.specs.Commands.{Declare, Append, Heartbeat, Take, Drop, first_fault, after}
-use Rattle.reference.specs.Commands.{is_crowded}
+use Rattle.reference.specs.Commands.{is_crowded, took}
 use Rattle.reference.specs.Replies.{Number, Done, Rows}
 use Rattle.reference.specs.Steps.{AreNext, IsStep}
-use Rattle.reference.specs.World.{World, take_step, drain_step}
+use Rattle.reference.specs.Status.{QueryStatus, status_of}
+use Rattle.reference.specs.World.{World, begins_at, drain_step, drop_step, peek_at, take_step}
 
 -- a value, and the column a of the source S
 abbrev num : ℕ → Option ℤ
@@ -97,6 +99,7 @@ four = record {
   start = 0;
   earlier = [];
   taken = 0;
+  ever_taken = 0;
   is_dropped = false;
 }
 
@@ -152,8 +155,8 @@ query = record {
   first = 0;
   start = 0;
   earlier = [];
-  taken =
-      0;
+  taken = 0;
+  ever_taken = 0;
   is_dropped = false;
 }
 
@@ -161,6 +164,7 @@ abbrev asked : World
 asked = record {
   machine = record { streams = fresh ∷ []; queries = query ∷ [] };
   waiting = [] ∷ [];
+  upto = 0 ∷ [];
 }
 
 limit_of_none : first_fault asked.machine (Take 0 (pos 0)) ≡ Some BadLimit
@@ -182,9 +186,11 @@ abbrev waits : World
 waits = record {
   machine = came;
   waiting = ((1, num 5 ∷ []) ∷ (3, num 6 ∷ []) ∷ (3, num 7 ∷ []) ∷ []) ∷ [];
+  upto = 4 ∷ [];
 }
 
-drained : drain_step (record { machine = came; waiting = [] ∷ [] }) 1 ≡ (Ok tt, waits)
+drained : drain_step (record { machine = came; waiting = [] ∷ []; upto = 0 ∷ [] }) 1
+    ≡ (Ok tt, waits)
 unfolding drain_step
 drained = refl
 
@@ -206,6 +212,67 @@ drained_again : drain_step (take_step waits 0 (pos 2)).1 1 ≡ (Ok tt, (take_ste
 unfolding drain_step take_step
 drained_again = refl
 
+-- a peek shows the same each time, and is refused as a take is
+first_peek : peek_at waits 0 (pos 2) ≡ Ok ((pos 1, num 5 ∷ []) ∷ (pos 3, num 6 ∷ []) ∷ [])
+unfolding take_step peek_at
+first_peek = refl
+
+peek_after_the_take : peek_at (take_step waits 0 (pos 2)).1 0 (pos 2)
+    ≡ Ok ((pos 3, num 7 ∷ []) ∷ [])
+unfolding take_step peek_at
+peek_after_the_take = refl
+
+peek_of_none : peek_at waits 1 (pos 2) ≡ Err UnknownQuery
+unfolding take_step peek_at
+peek_of_none = refl
+
+-- HOW FAR ALL IS: three answers wait, and all of them up to the instant 3
+abbrev as_shown : ℕ → ℕ → QueryStatus
+as_shown taken waiting = record {
+  name = 113 ∷ [];
+  base = negsuc 0;
+  taken = taken;
+  waiting = waiting;
+  upto = pos 3;
+  is_broken = false;
+}
+
+status_drained : status_of waits ≡ record {
+  queries = as_shown 0 3 ∷ [];
+  streams = record {
+    name = 83 ∷ [];
+    columns = (97 ∷ []) ∷ [];
+    closed = pos 3;
+    rows = 3;
+  } ∷ [];
+}
+unfolding status_of
+status_drained = refl
+
+status_after_a_take : (status_of (take_step waits 0 (pos 2)).1).queries ≡ as_shown 2 1 ∷ []
+unfolding take_step status_of
+status_after_a_take = refl
+
+status_after_the_drop : (status_of (drop_step waits 0).1).queries ≡ []
+unfolding drop_step status_of
+status_after_the_drop = refl
+
+-- closed, but not yet drained
+status_undrained : (status_of (record { machine = came; waiting = [] ∷ []; upto = 0 ∷ [] })).queries
+    ≡ record (as_shown 0 0) { upto = negsuc 0 } ∷ []
+unfolding status_of
+status_undrained = refl
+
+-- a query that is registered after an instant was closed lacks none up to that
+begins_late : begins_at (after told (Heartbeat 0 (pos 3)) 0)
+    (Ok (record { streams = 0 ∷ []; meaning = lists_a; nodes = []; measures = [] })) ≡ 4
+begins_late = refl
+
+-- the count of all that was ever taken stays at its greatest
+most_are_counted : (took 5 (record query { ever_taken = 18446744073709551611 })).ever_taken
+    ≡ 18446744073709551615
+most_are_counted = refl
+
 -- STEPS OF THE MACHINE
 declaration : IsStep told (Declare (84 ∷ []) ((98 ∷ []) ∷ []) (pos 5)) (Number 1)
     (after told (Declare (84 ∷ []) ((98 ∷ []) ∷ []) (pos 5)) 0)
@@ -226,12 +293,12 @@ two_are_next : AreNext came 0 (pos 2) ((pos 1, num 5 ∷ []) ∷ (pos 3, num 6 �
 two_are_next = record { query = query; registered = refl; few = omega arith; next = refl }
 
 two_are_taken : IsStep came (Take 0 (pos 2)) (Rows ((pos 1, num 5 ∷ []) ∷ (pos 3, num 6 ∷ []) ∷ []))
-    (record came { queries = record query { taken = 2 } ∷ [] })
+    (record came { queries = record query { taken = 2; ever_taken = 2 } ∷ [] })
 two_are_taken = record { accepted = refl; gives = two_are_next; after = refl }
 
 one_is_next : AreNext came 0 (pos 2) ((pos 1, num 5 ∷ []) ∷ [])
 one_is_next = record { query = query; registered = refl; few = omega arith; next = refl }
 
 one_is_taken : IsStep came (Take 0 (pos 2)) (Rows ((pos 1, num 5 ∷ []) ∷ []))
-    (record came { queries = record query { taken = 1 } ∷ [] })
+    (record came { queries = record query { taken = 1; ever_taken = 1 } ∷ [] })
 one_is_taken = record { accepted = refl; gives = one_is_next; after = refl }

@@ -21,12 +21,17 @@ query_of q = record {
   start = q.first;
   earlier = [];
   taken = q.taken;
+  ever_taken = q.taken;
   is_dropped = q.is_dropped;
 }
 
 -- the answers that wait at it
 abbrev pub waiting_of : StandingQuery → List (ℕ × Row)
 waiting_of q = pairs_of q.waiting.items
+
+-- the first instant whose answers may still be missing
+abbrev pub upto_of : StandingQuery → ℕ
+upto_of q = q.upto
 
 -- the answers that a drain under way found
 abbrev pub fresh_of : StandingQuery → List (ℕ × Row)

@@ -18,10 +18,13 @@ mod place;
 mod plain;
 mod refusals;
 mod standing;
+mod status;
 mod stream;
 
+pub use answer_rows::AnswerRows;
 pub use answering::Answering;
 pub use asked::answers;
+pub use cql_reader::Name;
 pub use envelope::Slope;
 pub use fault::{Fault, QueryFault};
 pub use finding::find_plan;
@@ -47,3 +50,4 @@ pub use refusals::{
     turn_fault,
 };
 pub use standing::{move_front, paired};
+pub use status::{QueryStatus, Status, StreamStatus};

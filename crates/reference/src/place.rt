@@ -1,6 +1,6 @@
 //! Keeps the sources of a registered query.
 ghost use Rattle.std.specs.Prelude.{◌≡◌, ◌≤◌, IfOk, length, map, max, slice_get, unwrap_or};
-ghost use Rattle.std.specs.List.{list_any, reduce};
+ghost use Rattle.std.specs.List.{AllByRecursion, list_any, reduce};
 ghost use Rattle.std.specs.Option.{option_map_or};
 ghost use Rattle.reference.specs.Machine.{input_at, opens, until_for};
 ghost use Rattle.reference.specs.Commands.{is_past, place_at};
@@ -70,7 +70,8 @@ pub(crate) fn opens_of(
     streams: &[Stream],
     places: &[Place],
 ) -> Result<Vec<u64>, AllocError>
-    ensures { IfOk result (λ v. v.items ≡ opens streams.now (map place_of places.now)) }
+    ensures opens { IfOk result (λ v. v.items ≡ opens streams.now (map place_of places.now)) }
+    ensures range { IfOk result (λ v. AllByRecursion (λ at. at ≤ 1099511627777) v.items) }
 {
     let mut opens = Vec::new(alloc);
     for place in places {

@@ -11,6 +11,7 @@ pub(crate) mod changes;
 mod empty;
 mod faults;
 mod finding;
+mod looks;
 
 use crate::standing::StandingQuery;
 use crate::stream::Stream;

@@ -1,5 +1,5 @@
 //! Keeps a registered query and the answers that wait at it.
-ghost use Rattle.std.specs.Prelude.{◌≡◌, ◌<◌, ◌+◌, ◌^◌, length, true};
+ghost use Rattle.std.specs.Prelude.{◌≡◌, ◌≤◌, ◌<◌, ◌+◌, ◌^◌, length, true};
 ghost use Rattle.std.specs.VecDeque.{deque_len};
 ghost use Rattle.names.specs.Sound.{has_narrow_rows, all_slide};
 ghost use Rattle.reference.specs.Views.{pairs_of};
@@ -7,6 +7,7 @@ ghost use Rattle.reference.specs.Inputs.{are_signed};
 
 mod answers;
 mod calls;
+mod looks;
 mod operators;
 
 use crate::place::Place;
@@ -29,6 +30,9 @@ pub(crate) struct StandingQuery {
     first: u64,
     /// Counts the answers that were taken.
     taken: u64,
+    /// Holds the first instant whose answers may still be missing: those of earlier ones were taken
+    /// or wait.
+    upto: u64,
     /// Says whether it was dropped.
     is_dropped: bool,
     /// Holds the answers that wait for a take, each an instant and a row, the next one in front.
@@ -39,6 +43,8 @@ pub(crate) struct StandingQuery {
     ghost fits: { has_narrow_rows plan.meaning.shape ≡ true },
     ghost sources: { length plan.meaning.windows.items ≡ length places.items },
     ghost slides: { all_slide plan.meaning.windows.items ≡ true },
+    ghost begins: { first ≤ 1099511627777 },
+    ghost reaches: { upto ≤ 1099511627777 },
     ghost counts: { taken + deque_len waiting < 2 ^ 64 },
     ghost instants: { are_signed (pairs_of waiting.items) ≡ true },
     ghost fresh_counts: { taken + deque_len fresh < 2 ^ 64 },

@@ -9,12 +9,15 @@ ghost use Rattle.names.specs.Views.{names_of};
 ghost use Rattle.cql_reader.specs.Views.{name_of};
 ghost use Rattle.reference.specs.Inputs.{ShowsSame};
 ghost use Rattle.reference.specs.Kept.{kept_in};
+ghost use Rattle.reference.specs.Status.{stream_status};
+ghost use Rattle.reference.specs.StatusViews.{stream_status_in};
 ghost use Rattle.reference.specs.Told.{IsTold};
 ghost use Rattle.reference.specs.Views.{pairs_of, elements_of};
 
 use crate::fault::Fault;
 use crate::new_rows::NewRows;
 use crate::refusals::{append_fault, heartbeat_fault};
+use crate::status::StreamStatus;
 use cql_reader::Name;
 use names::Catalog;
 use std::alloc::{AllocError, Global};
@@ -111,6 +114,23 @@ impl Stream {
         ensures range { result ≤ 1099511627777 }
     {
         self.first_open
+    }
+
+    /// Says how far it is.
+    ///
+    /// # Errors
+    /// `AllocError` when out of memory.
+    pub(crate) fn status(&self, alloc: Global) -> Result<StreamStatus, AllocError>
+        ensures { IfOk result (λ s. stream_status_in s ≡ stream_status self.now) }
+    {
+        let mut columns = Vec::new(alloc);
+        columns.extend_from_slice(&self.columns)?;
+        Ok(StreamStatus {
+            name: self.name,
+            columns,
+            closed: self.first_open as i64 - 1,
+            rows: self.arrivals(),
+        })
     }
 
     /// Returns the first fault of the rows.

@@ -1,6 +1,6 @@
 -- Rows with their instants: more behind them, and their front.
-use Rattle.std.proofs.Common.{◌≡◌, ℕ, ℤ, zero, suc, Result, Ok, Err, OnOk, ◌+◌, ◌<◌, ◌≤◌, Option, List, [], ◌∷◌, ◌++◌, length, map, take, drop, get_or, refl, ap, ap₂, sym, subst, ◌∙◌, arith, append_assoc, length-append, length-drop}
-use Rattle.std.proofs.Math.Seq.{take-add}
+use Rattle.std.proofs.Common.{◌≡◌, ℕ, ℤ, zero, suc, Result, Ok, Err, OnOk, ◌+◌, ◌-◌, ◌<◌, ◌≤◌, Option, List, [], ◌∷◌, ◌++◌, length, map, take, drop, get_or, refl, ap, ap₂, sym, subst, ◌∙◌, arith, append_assoc, length-append, length-drop}
+use Rattle.std.proofs.Math.Seq.{take-add, take-append-add}
 use Rattle.std.proofs.lemmas.List.{drop-append-le, take-append-le, take_all, take_at, drop_all, drop-take, length-take, length-take-le}
 use Rattle.values.specs.declared.TheConstants.{MAX_COLUMNS}
 use Rattle.values.specs.Row.{Row}
@@ -51,6 +51,20 @@ count-next (suc n) (g ∷ hs) h lt e =
     let k : suc n + 1 ≡ suc (n + 1) = omega arith in
     ap (λ (m : ℕ). count_values (take m (g ∷ hs))) k
     ∙ omega (arith, count-next n hs h (omega (arith, lt)) e)
+
+pub count-least : (n m : ℕ) (hs : List Head) → n ≤ m → count_values (take n hs) ≤ count_values (take m hs)
+count-least zero m hs le = omega arith
+count-least (suc n) zero hs le = absurd (omega (arith, le))
+count-least (suc n) (suc m) [] le = omega arith
+count-least (suc n) (suc m) (h ∷ hs) le = omega (arith, count-least n m hs (omega (arith, le)))
+
+pub within-rows : (hs : List Head) (vs : Values) (rows : List (ℕ × Row)) → dated_by hs vs ≡ rows → length rows ≡ length hs
+within-rows hs vs rows e = sym (ap (λ (es : List (ℕ × Row)). length es) e) ∙ length-dated_by hs vs
+
+pub take-seam : {A : Type 0} (n : ℕ) (xs ys zs : List A) → xs ++ ys ≡ zs → length xs ≤ n → xs ++ take (n - length xs) ys ≡ take n zs
+take-seam {A = A} n xs ys zs e le =
+    let split : length xs + (n - length xs) ≡ n = omega (arith, le) in
+    sym (take-append-add xs ys (n - length xs)) ∙ ap₂ (λ (k : ℕ) (l : List A). take k l) split e
 
 take-first : (w m : ℕ) (vs : Values) → w ≤ length vs → take w (take (w + m) vs) ≡ take w vs
 take-first w m vs le = ap (λ (v : Values). take w v) (take-add w m vs) ∙ take_at (take w vs) (take m (drop w vs)) w (length-take-le w vs le)

@@ -16,3 +16,4 @@ pub mod KeyLemmas
 pub mod CountLemmas
 pub mod FormLemmas
 pub mod WalkLemmas
+pub mod ComparedLemmas

@@ -2,6 +2,7 @@ pub mod Bags
 pub mod Deltas
 pub mod Rooms
 pub mod Piles
+pub mod Compared
 pub mod Dated
 pub mod Lists
 pub mod Examples

@@ -1,7 +1,8 @@
 //! Keeps rows with their instants, in as little room as they need.
-ghost use Rattle.std.specs.Prelude.{◌≡◌, ◌≤◌, ◌+◌, ◌++◌, ◌∷◌, [], length, take, drop};
+ghost use Rattle.std.specs.Prelude.{◌≡◌, ◌≤◌, ◌<◌, ◌^◌, ◌+◌, ◌++◌, ◌∷◌, [], length, take, drop};
 ghost use Rattle.std.specs.Prelude.{IfNone, IfOk, IfSome, OnErr, OnOk};
 ghost use Rattle.std.specs.VecDeque.{deque_len, deque_capacity};
+ghost use Rattle.row_bags.specs.Dated.{count_values};
 
 use std::alloc::{AllocError, Global};
 use std::collections::VecDeque;
@@ -103,16 +104,39 @@ impl DatedRows {
         Some((head.instant, row))
     }
 
+    /// Removes the first row and returns its instant. Its values replace those of `row`, so that no
+    /// row is moved. If there is no row, nothing changes.
+    pub fn pop_front_into(&mut self, row: &mut Row) -> Option<u64>
+        ensures some { IfSome result (λ at. self.old ≡ (at, row.new.items) ∷ self.new) }
+        ensures none { IfNone result (self.old ≡ []) }
+        ensures still { IfNone result ((self.new ≡ []) × (row.new.items ≡ row.old.items)) }
+    {
+        let head = self.heads.pop_front()?;
+        row.clear();
+        move_row(&mut self.values, head.width, row);
+        Some(head.instant)
+    }
+
+    /// Drops the first `count` rows, or all if there are fewer. It costs these.
+    pub fn drop_first(&mut self, count: usize)
+        ensures { self.new ≡ drop count self.old }
+    {
+        let mut row = Row::new();
+        for _ in 0..count {
+            match self.pop_front_into(&mut row) {
+                Some(_at) => {}
+                None => return,
+            }
+        }
+    }
+
     /// Keeps the first `count` rows, and drops those after them.
     pub(crate) fn keep_first(&mut self, count: usize)
         requires { count ≤ length self.old }
         ensures { self.new ≡ take count self.old }
     {
         let _all = self.values.len(); // for the proof
-        let mut values = 0;
-        for place in 0..count {
-            values += self.heads[place].width;
-        }
+        let values = values_of_first(&self.heads, count);
         self.heads.truncate(count);
         self.values.truncate(values);
     }
@@ -128,6 +152,37 @@ impl DatedRows {
         let values = copy_of(alloc, &self.values)?;
         Ok(DatedRows { heads, values })
     }
+
+    /// Returns a copy of the first `count` rows, or of all where there are fewer. It costs the rows
+    /// that it copies.
+    ///
+    /// # Errors
+    /// `AllocError` when out of memory.
+    pub fn copy_first(&self, alloc: Global, count: usize) -> Result<DatedRows, AllocError>
+        ensures { IfOk result (λ copy. copy ≡ take count self.now) }
+    {
+        if count >= self.len() {
+            return self.copy(alloc);
+        }
+        let _all = self.values.len(); // for the proof
+        let values = values_of_first(&self.heads, count);
+        let heads = copy_of_first(alloc, &self.heads, count)?;
+        let values = copy_of_first(alloc, &self.values, values)?;
+        Ok(DatedRows { heads, values })
+    }
+}
+
+/// Returns how many values the first `count` rows have together.
+fn values_of_first(heads: &VecDeque<Head>, count: usize) -> usize
+    requires within { count ≤ length heads.now.items }
+    requires few { count_values (take count heads.now.items) < 2 ^ 63 }
+    ensures { result ≡ count_values (take count heads.now.items) }
+{
+    let mut values = 0;
+    for place in 0..count {
+        values += heads[place].width;
+    }
+    values
 }
 
 /// Appends values for which there is room.
@@ -148,13 +203,24 @@ fn pop_row(values: &mut VecDeque<Value>, width: usize) -> Row
     ensures rest { values.new.items ≡ drop width values.old.items }
 {
     let mut row = Row::new();
+    move_row(values, width, &mut row);
+    row
+}
+
+/// Moves the first `width` values into an empty row.
+fn move_row(values: &mut VecDeque<Value>, width: usize, row: &mut Row)
+    requires few { width ≤ MAX_COLUMNS }
+    requires enough { width ≤ deque_len values.old }
+    requires empty { row.old.items ≡ [] }
+    ensures row { row.new.items ≡ take width values.old.items }
+    ensures rest { values.new.items ≡ drop width values.old.items }
+{
     for _ in 0..width {
         match values.pop_front() {
             Some(value) => row.push(value),
             None => unreachable!(),
         }
     }
-    row
 }
 
 /// Returns a copy of the items.
@@ -165,5 +231,25 @@ fn copy_of<T: Copy>(alloc: Global, items: &VecDeque<T>) -> Result<VecDeque<T>, A
     let mut copy = Vec::with_capacity(alloc, items.len())?;
     copy.extend_from_slice(front)?;
     copy.extend_from_slice(back)?;
+    Ok(VecDeque::from_vec(copy))
+}
+
+/// Returns a copy of the first `count` items.
+fn copy_of_first<T: Copy>(
+    alloc: Global,
+    items: &VecDeque<T>,
+    count: usize,
+) -> Result<VecDeque<T>, AllocError>
+    requires { count ≤ length items.now.items }
+    ensures { IfOk result (λ copy. copy.items ≡ take count items.now.items) }
+{
+    let (front, back) = items.as_slices();
+    let mut copy = Vec::with_capacity(alloc, count)?;
+    if count <= front.len() {
+        copy.extend_from_slice(&front[..count])?;
+        return Ok(VecDeque::from_vec(copy));
+    }
+    copy.extend_from_slice(front)?;
+    copy.extend_from_slice(&back[..count - front.len()])?;
     Ok(VecDeque::from_vec(copy))
 }

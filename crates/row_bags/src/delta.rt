@@ -1,5 +1,5 @@
 //! Keeps what entered and what left.
-ghost use Rattle.std.specs.Prelude.{◌≡◌, ◌+◌, ◌^◌, ◌<◌, ◌++◌, ◌∷◌, [], length, map};
+ghost use Rattle.std.specs.Prelude.{◌≡◌, ◌↔◌, ◌+◌, ◌^◌, ◌<◌, ◌++◌, ◌∷◌, [], length, map};
 ghost use Rattle.std.specs.Prelude.{slice_index_or, true, IfOk, IsTrue, OnOk, OnErr};
 ghost use Rattle.column.specs.Rows.{signed};
 ghost use Rattle.values.specs.Row.{row_cmp};
@@ -8,8 +8,9 @@ ghost use Rattle.row_bags.specs.Deltas.{delta_after, deltas_after};
 ghost use Rattle.row_bags.specs.Lists.{renewed};
 ghost use Rattle.row_bags.specs.Piles.{pile_in};
 
+use crate::compared::{are_alike, are_even};
 use crate::dated_rows::DatedRows;
-use crate::difference::{push_beyond, rows_beyond};
+use crate::difference::push_beyond;
 use crate::pile::Pile;
 use crate::row_list::RowList;
 use column::{Batch, SignedRow};
@@ -52,30 +53,44 @@ impl Delta {
         }
     }
 
-    /// Returns what entered, in order.
+    /// Returns a copy, which keeps the rows as they came.
     ///
     /// # Errors
     /// `AllocError` when out of memory; then nothing has changed.
-    pub fn entered(&self, alloc: Global) -> Result<RowList, AllocError>
-        ensures { IfOk result (λ rows. rows ≡ self.now.entered) }
+    pub fn copy(&self, alloc: Global) -> Result<Delta, AllocError>
+        ensures { IfOk result (λ delta. delta ≡ self.now) }
     {
-        let rows = difference(alloc, &self.entered, &self.left)?;
-        Ok(rows)
+        let entered = self.entered.copy(alloc)?;
+        let left = self.left.copy(alloc)?;
+        Ok(Delta {
+            entered,
+            left,
+            alloc,
+        })
     }
 
-    /// Returns what left, in order.
+    /// Returns whether the same rows entered and left. Takes no memory.
     ///
-    /// # Errors
-    /// `AllocError` when out of memory; then nothing has changed.
-    pub fn left(&self, alloc: Global) -> Result<RowList, AllocError>
-        ensures { IfOk result (λ rows. rows ≡ self.now.left) }
+    /// It costs one look at each row if they came in the same order, and else each row is counted
+    /// in both.
+    pub fn is_same(&self, other: &Delta) -> bool
+        ensures { IsTrue result ↔ (self.now ≡ other.now) }
     {
-        let rows = difference(alloc, &self.left, &self.entered)?;
-        Ok(rows)
+        if self.is_alike(other) {
+            return true;
+        }
+        are_even(&self.entered, &other.left, &other.entered, &self.left)
+    }
+
+    /// Returns whether the same rows came in the same order.
+    fn is_alike(&self, other: &Delta) -> bool
+        ensures { IsTrue result → (self.now ≡ other.now) }
+    {
+        are_alike(&self.entered, &other.entered) && are_alike(&self.left, &other.left)
     }
 
     /// Returns whether no row came.
-    pub(crate) fn is_empty(&self) -> bool
+    pub fn is_empty(&self) -> bool
         ensures { IsTrue result → (self.now ≡ record { entered = []; left = [] }) }
     {
         self.entered.len() == 0 && self.left.len() == 0
@@ -209,17 +224,6 @@ fn add_at(alloc: Global, pile: &mut Pile, batch: &Batch, place: usize) -> Result
     let _count = batch.len(); // for the proof
     pile.make_room(alloc, batch.width())?;
     pile.push_at(batch, place)
-}
-
-/// Returns the rows of the first bag without those of the second, in order.
-fn difference(alloc: Global, rows: &Pile, others: &Pile) -> Result<RowList, AllocError>
-    ensures { IfOk result (λ result. result
-        ≡ in_order row_cmp (bag_minus row_cmp (pile_in rows.now) (pile_in others.now))) }
-{
-    let rows = rows.in_order(alloc)?;
-    let others = others.in_order(alloc)?;
-    let result = rows_beyond(alloc, &rows, &others)?;
-    Ok(result)
 }
 
 /// Pushes the rows of the first bag without those of the second to the end of the answers, in

@@ -1,32 +1,13 @@
 //! Finds the difference of two sorted piles, by one walk over both.
-ghost use Rattle.std.specs.Prelude.{◌≡◌, ◌≤◌, ◌<◌, ◌++◌, length, drop, map, take, IfOk, IsTrue};
+ghost use Rattle.std.specs.Prelude.{◌≡◌, ◌≤◌, ◌<◌, ◌++◌, length, drop, map, take, IsTrue};
 ghost use Rattle.std.specs.Prelude.{OnErr, OnOk};
 ghost use Rattle.row_bags.specs.Lists.{AreWithin, is_first, not_below, beyond, beyond_from};
 ghost use Rattle.row_bags.specs.Piles.{pile_in};
 
 use crate::dated_rows::DatedRows;
 use crate::pile::Pile;
-use crate::row_list::RowList;
-use std::alloc::{AllocError, Global};
+use std::alloc::AllocError;
 use values::Value;
-
-/// Returns the rows of the first pile beyond those of the second. Both are in order.
-pub(crate) fn rows_beyond(alloc: Global, rows: &Pile, others: &Pile) -> Result<RowList, AllocError>
-    ensures { IfOk result (λ list. list ≡ beyond (pile_in rows.now) (pile_in others.now)) }
-{
-    let mut list = RowList::with_capacity(alloc, rows.len(), rows.most_values())?;
-    let mut other = 0;
-    for place in 0..rows.len() {
-        let values = rows.values(place);
-        other = first_not_below(values, others, other);
-        if stands_at(values, others, other) {
-            other += 1;
-            continue;
-        }
-        list.push(values)?;
-    }
-    Ok(list)
-}
 
 /// Pushes the rows of the first pile beyond those of the second to the end of the answers. Both are
 /// in order.

@@ -14,6 +14,7 @@
 //! signed rows turn into one another.
 #![tactic(auto)]
 
+mod compared;
 mod counts;
 mod dated_rows;
 mod delta;

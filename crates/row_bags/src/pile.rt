@@ -111,7 +111,7 @@ impl Pile {
     }
 
     /// Returns a copy.
-    fn copy(&self, alloc: Global) -> Result<Pile, AllocError>
+    pub(crate) fn copy(&self, alloc: Global) -> Result<Pile, AllocError>
         ensures { IfOk result (λ copy. pile_in copy ≡ pile_in self.now) }
     {
         match self {

@@ -48,6 +48,27 @@ impl RowList {
         }
     }
 
+    /// Returns a copy.
+    ///
+    /// # Errors
+    /// `AllocError` when out of memory; then nothing has changed.
+    pub fn copy(&self, alloc: Global) -> Result<RowList, AllocError>
+        ensures { IfOk result (λ list. list ≡ self.now) }
+    {
+        let mut widths = Vec::with_capacity(alloc, self.widths.len())?;
+        let mut values = Vec::with_capacity(alloc, self.values.len())?;
+        widths.extend_from_slice(&self.widths)?;
+        values.extend_from_slice(&self.values)?;
+        Ok(RowList { widths, values })
+    }
+
+    /// Returns whether there are no rows.
+    pub fn is_empty(&self) -> bool
+        ensures { IsTrue result → self.now ≡ [] }
+    {
+        self.widths.len() == 0
+    }
+
     /// Returns whether the lists have the same rows.
     pub fn is_same(&self, other: &RowList) -> bool
         ensures { IsTrue result ↔ (self.now ≡ other.now) }

@@ -1,18 +1,20 @@
 -- One request of a seat.
-use Rattle.std.proofs.Common.{◌≡◌, ◌∙◌, ℕ, Bool, true, false, ◌&&◌, List, [], ◌∷◌, ◌++◌, Option, Some, Result, Ok, Err, refl, ap, sym, subst, append_assoc, ◌⊎◌, inl, inr, arith}
+use Rattle.std.proofs.Common.{◌≡◌, ◌∙◌, ℕ, Bool, true, false, ◌&&◌, List, [], ◌∷◌, ◌++◌, Option, Some, None, Result, Ok, Err, refl, ap, sym, subst, append_assoc, ◌⊎◌, inl, inr, arith}
 use Rattle.std.specs.Prelude.{◌≤◌, ◌↔◌, ⊤, IfOk, IfErr, IsErrOf}
 use Rattle.std.proofs.lemmas.Bool.{cases_lt}
 use Rattle.histories.specs.Histories.{Told}
 use Rattle.hub.specs.Seats.{PlainSeat}
 use Rattle.hub.specs.Steps as hub
-use Rattle.hub.specs.Steps.{PlainLocked, FindsQuery, FindsStream, Hands, Spurned, Took}
+use Rattle.hub.specs.Steps.{PlainLocked, FindsQuery, FindsStream, Hands, Spurned, SpurnedNamed, Took, TookNamed}
 use Rattle.leases.specs.declared.leased.Leased.{Leased}
+use Rattle.leases.specs.declared.leased.Leased.TheVariants.{Idle}
 use Rattle.reference.specs.Commands.{Command}
+use Rattle.reference.specs.Machine.{Machine, query_named, stream_named}
 use Rattle.reference.specs.Replies.{Reply}
 use Rattle.reference.specs.declared.fault.Fault.{Fault}
 use Rattle.reference.specs.declared.fault.Fault.TheVariants.{BadLimit, OutOfMemory, TooManyLeases}
 use Rattle.reference.specs.World.{IsTurnSize}
-use Rattle.wire.specs.Calls.{Call, declare, register, append, heartbeat, drain, take_rows, drop_query, forget, show_plan, call_of}
+use Rattle.wire.specs.Calls.{Call, declare, register, append, heartbeat, drain, take_rows, drop_query, forget, peek_rows, show_plan, show_status, call_of}
 use Rattle.wire.specs.Exchanges.{Leads}
 use Rattle.wire.specs.Printed.{Answer, done, refused, unread}
 use Rattle.wire.specs.Requests.{Reads}
@@ -23,7 +25,7 @@ use Rattle.wire.specs.declared.request.WireFault.TheVariants.{NotJson, BadReques
 use Rattle.wire.specs.declared.request.WireFault.TheVariants as in_line
 use Rattle.workers.specs.Lacks.{WasFull}
 use Rattle.workers.specs.declared.pool.TheConstants.{MAX_WORKERS}
-use Rattle.served.specs.Serving.{Carries, CarriesNamed, Forgets, IsPool, Keeps, PoolDrains, Replies, Runs, Serves, WasAtRest, asks_forget, forgets, is_done, shown}
+use Rattle.served.specs.Serving.{Carries, CarriesNamed, Forgets, IsPool, Keeps, MaySettle, PoolDrains, Replies, Runs, RunsSettling, Serves, SettlesAround, WasAtRest, WasIdle, asks_forget, forgets, is_done, shown}
 
 -- a command whose acceptance is answered `done`
 pub carried : {A : Type 0} (told : A → Told) (reply : A → Reply) (seat seat' : PlainSeat) (command : Command) (r : Result A Fault) (answer : Answer)
@@ -41,6 +43,36 @@ pub carried_named : {A : Type 0} (Finds : PlainLocked → List ℕ → Option �
     → answer ≡ done_of r → CarriesNamed Finds name fault command seat answer seat'
 carried_named Finds name fault command n told reply seat seat' r answer found plain ok err is =
     inl (n, found, carried told reply seat seat' (command n) r answer plain ok err is)
+
+-- the same where the call itself looked the number up
+abbrev Lookup : Type 0
+Lookup = Machine → List ℕ → Option ℕ
+
+abbrev FindsBy : Lookup → (PlainLocked → List ℕ → Option ℕ → Type 0) → List ℕ → Type 0
+FindsBy number_of Finds name = (l : PlainLocked) (o : Option ℕ) → hub.IsReplayed l → o ≡ number_of (hub.engine_at l).machine name → Finds l name o
+
+pub finds_stream : (name : List ℕ) → FindsBy stream_named FindsStream name
+finds_stream name l o legal is = record { legal = legal; is = is }
+
+pub finds_query : (name : List ℕ) → FindsBy query_named FindsQuery name
+finds_query name l o legal is = record { legal = legal; is = is }
+
+module _ (number_of : Lookup) (Finds : PlainLocked → List ℕ → Option ℕ → Type 0) (name : List ℕ) (finds : FindsBy number_of Finds name) (unknown : Fault) (command : ℕ → Command) (seat seat' : PlainSeat) where
+  pub accepted_by_name : (told : Told) (answer : Answer) → answer ≡ shown told.entry.reply → TookNamed number_of name command seat told seat' → CarriesNamed Finds name unknown command seat answer seat'
+  accepted_by_name told answer is h = inl (h.2.0, (h.0, finds h.0 (Some h.2.0) h.2.2.legal (sym h.2.1)), inl (told, is, (h.0, h.1, h.2.2)))
+
+  refused_in : (old new : PlainLocked) (f : Fault) (answer : Answer) → answer ≡ refused f → hub.DeclinedNamed number_of name unknown command old seat f new seat' → CarriesNamed Finds name unknown command seat answer seat'
+  refused_in old new f answer is (inl d) = inl (d.0, (old, finds old (Some d.0) d.2.legal (sym d.1)), inr (f, is, (old, new, d.2)))
+  refused_in old new f answer is (inr d) = inr ((old, finds old None d.0 (sym d.1)), is ∙ ap refused d.2, d.4)
+
+  pub refused_by_name : (f : Fault) (answer : Answer) → answer ≡ refused f → SpurnedNamed number_of name unknown command seat f seat' → CarriesNamed Finds name unknown command seat answer seat'
+  refused_by_name f answer is h = refused_in h.0 h.1 f answer is h.2
+
+  pub carried_by_name : {A : Type 0} (told : A → Told) (reply : A → Reply) (r : Result A Fault) (answer : Answer) → ((x : A) → shown (reply x) ≡ done)
+      → IfOk r (λ x. ((told x).entry.reply ≡ reply x) × TookNamed number_of name command seat (told x) seat') → IfErr r (λ f. SpurnedNamed number_of name unknown command seat f seat')
+      → answer ≡ done_of r → CarriesNamed Finds name unknown command seat answer seat'
+  carried_by_name told reply (Ok x) answer plain ok err is = accepted_by_name (told x) answer (is ∙ sym (plain x) ∙ ap shown (sym ok.0)) ok.1
+  carried_by_name told reply (Err f) answer plain ok err is = refused_by_name f answer is err
 
 -- ---- what was read of a line
 
@@ -100,6 +132,10 @@ pool_drained workers most (Err f) answer rows rest bad full (inr (inl turns)) is
 pool_drained workers most (Err f) answer rows rest bad full (inr (inr memory)) is =
     subst (PoolDrains workers most) (sym (is ∙ ap refused memory)) (in_range workers most (Err f) bad (λ e. cc))
 
+-- a moment at which nothing was ready
+pub idle_moment : (most : ℕ) (r : Result Bool Fault) → r ≡ Ok false → (r ≡ Ok false → (l : PlainLocked) × Hands l most (Ok Idle) l) → WasIdle most
+idle_moment most r is idle = let h = idle is in (h.0, h.0, h.1)
+
 -- ---- the seat
 
 keeps_itself : (seat : PlainSeat) → Keeps seat seat
@@ -131,6 +167,8 @@ keeps_served R seat (take_rows query limit) answer seat' s = keeps_named FindsQu
 keeps_served R seat forget answer seat' s = keeps_same seat seat' s.1
 keeps_served R seat (drop_query query) answer seat' s = keeps_named FindsQuery query _ _ seat answer seat' s
 keeps_served R seat (show_plan query) answer seat' s = keeps_same seat seat' s.1
+keeps_served R seat (peek_rows query limit) answer seat' s = keeps_same seat seat' s.1
+keeps_served R seat show_status answer seat' s = keeps_same seat seat' s.1
 
 keeps_replied : (R : Answer → Type 0) (seat : PlainSeat) (request : Result Call WireFault) (answer : Answer) (seat' : PlainSeat) → Replies R seat request answer seat' → Keeps seat seat'
 keeps_replied R seat (Ok call) answer seat' (inl s) = keeps_served R seat call answer seat' s
@@ -173,3 +211,35 @@ keeps_runs R first last (request ∷ more) written forgot runs =
 -- requests that lead from a seat to another keep what it held
 pub keeps_led : (R : Answer → Type 0) (first last : PlainSeat) → Leads (Replies R) forgets first last → Keeps first last
 keeps_led R first last led = keeps_runs R first last led.0 led.1 led.2 led.3
+
+-- ---- a seat that settles
+
+-- a seat that agrees settles, and one that differs does not: its number stays
+number_settled : (result : Bool) (old new : PlainLocked) (seat seat' : PlainSeat) → hub.Settles old seat result new seat' → seat'.number ≡ seat.number
+number_settled true old new seat seat' s = ap (λ (x : PlainSeat). x.number) (s.settled refl).emptied
+number_settled false old new seat seat' s = ap (λ (x : PlainSeat). x.number) (s.differed refl).kept
+
+number_may_settle : (seat seat' : PlainSeat) → MaySettle seat seat' → seat'.number ≡ seat.number
+number_may_settle seat seat' (inl e) = ap (λ (x : PlainSeat). x.number) e
+number_may_settle seat seat' (inr s) = number_settled s.2 s.0 s.1 seat seat' s.3
+
+number_kept : (seat seat' : PlainSeat) → Keeps seat seat' → seat'.number ≡ seat.number
+number_kept seat seat' k = ap (λ (x : PlainSeat). x.number) k.1
+
+number_around : (R : Answer → Type 0) (seat : PlainSeat) (request : Result Call WireFault) (answer : Answer) (seat' : PlainSeat) → SettlesAround R seat request answer seat' → seat'.number ≡ seat.number
+number_around R seat request answer seat' s =
+    number_may_settle s.1 seat' s.4 ∙ number_kept s.0 s.1 (keeps_replied R s.0 request answer s.1 s.3) ∙ number_may_settle seat s.0 s.2
+
+number_runs : (R : Answer → Type 0) (first last : PlainSeat) (requests : List (Result Call WireFault)) (written : List ℕ) (forgot : Bool) → RunsSettling R first requests written forgot last → last.number ≡ first.number
+number_runs R first last [] written forgot runs = ap (λ (x : PlainSeat). x.number) runs.2
+number_runs R first last (request ∷ more) written forgot runs =
+    number_runs R runs.1 last more runs.2 runs.3 runs.7 ∙ number_around R first request runs.0 runs.1 runs.6
+
+-- requests that lead from a seat to another keep its number
+pub number_led : (R : Answer → Type 0) (first last : PlainSeat) → Leads (SettlesAround R) forgets first last → last.number ≡ first.number
+number_led R first last led = number_runs R first last led.0 led.1 led.2 led.3
+
+-- answered by a seat that settled before it, or after it
+pub around : (R : Answer → Type 0) (seat first last seat' : PlainSeat) (request : Result Call WireFault) (answer : Answer)
+    → MaySettle seat first → Replies R first request answer last → MaySettle last seat' → SettlesAround R seat request answer seat'
+around R seat first last seat' request answer before replied after = (first, last, before, replied, after)

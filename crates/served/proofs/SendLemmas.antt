@@ -8,6 +8,7 @@ use Rattle.histories.specs.contracts.receipt.Receipt.TheInside as receipt_inside
 use Rattle.hub.specs.contracts.seat.Seat as seat
 use Rattle.hub.specs.contracts.seat.Seat.TheInside as seat_inside
 use Rattle.hub.proofs.SendLemmas.{entry_send}
+use Rattle.served.specs.contracts.alarm.Alarm as alarm
 use Rattle.served.specs.contracts.door.Door as door
 
 receipt_send : IsSend receipt.the_row
@@ -17,4 +18,7 @@ pub seat_send : IsSend seat.the_row
 seat_send = view_send seat_inside.the_row _ _ seat.the_view _ (declared_send seat_inside.the_type (search sendable depth 12, (search (sendable, crosses, receipt_send) depth 12, (search sendable depth 12, (search sendable depth 12, (search sendable depth 12, tt))))))
 
 pub door_sync : IsSync (mutex.the_row door.the_row)
-door_sync = search (sendable, crosses) depth 20 fits 100000
+door_sync = search (sendable, crosses) depth 30 fits 400000
+
+pub alarm_sync : IsSync alarm.the_row
+alarm_sync = search (sendable, crosses) depth 30 fits 400000

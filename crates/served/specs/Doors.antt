@@ -1,5 +1,7 @@
 -- The door of a server.
-use Rattle.std.specs.Prelude.{◌≡◌, ◌≢◌, ◌-◌, ◌⊎◌, ℕ, Option, Some, None, true}
+use Rattle.std.specs.Prelude.{◌≡◌, ◌≢◌, ◌-◌, ℕ, Option, Some, None, Result, Ok, Err}
+use Rattle.served.specs.declared.alarm.Failure.{Failure}
+use Rattle.served.specs.declared.alarm.Failure.TheVariants as failed
 use Rattle.served.specs.declared.door.Door.{Door}
 
 -- one fewer are still to serve, where it is said how many are
@@ -9,8 +11,8 @@ fewer (Some n) = Some (n - 1)
 
 -- IT LET ONE IN, or nobody: shut, it stays as it is,
 -- and else it is shut where none could be accepted
-abbrev pub Admits : {C : Type 0} → Door → Option C → Door → Type 0
-Admits old (Some c) new = (old.left ≢ Some 0) × (new ≡ record old { left = fewer old.left })
-Admits old None new =
-    ((old.left ≡ Some 0) × (new ≡ old))
-    ⊎ ((old.left ≢ Some 0) × (new ≡ record old { left = Some 0; accept_failed = true }))
+abbrev pub Admits : {C : Type 0} → Door → Result (Option C) Failure → Door → Type 0
+Admits old (Ok (Some c)) new = (old.left ≢ Some 0) × (new ≡ record old { left = fewer old.left })
+Admits old (Ok None) new = (old.left ≡ Some 0) × (new ≡ old)
+Admits old (Err failure) new =
+    (old.left ≢ Some 0) × (failure ≡ failed.Accept) × (new ≡ record old { left = Some 0 })

@@ -30,6 +30,9 @@ thread_line = codes "cqld: thread failed\n"
 abbrev pub accept_line : List ℕ
 accept_line = codes "cqld: accept failed\n"
 
+abbrev pub audit_line : List ℕ
+audit_line = codes "cqld: audit failed\n"
+
 abbrev pub close_line : List ℕ
 close_line = codes "cqld: close failed\n"
 

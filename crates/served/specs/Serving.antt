@@ -6,19 +6,21 @@ use Rattle.histories.specs.Histories.{Told}
 use Rattle.hub.specs.Seats.{PlainSeat}
 use Rattle.hub.specs.Steps as hub
 use Rattle.hub.specs.Steps.{PlainLocked, FindsQuery, FindsStream, Hands, Rests, SeesSlopes, Spurned}
-use Rattle.hub.specs.Steps.{Took}
+use Rattle.hub.specs.Steps.{SeesPeek, SeesStatus, Took}
 use Rattle.leases.specs.declared.leased.Leased.TheVariants.{Idle}
 use Rattle.plan.specs.declared.node.Kind.{Kind}
 use Rattle.reference.specs.Commands.{Command, Declare, Register, Append, Heartbeat, Take, Drop}
 use Rattle.reference.specs.Replies as replies
 use Rattle.reference.specs.Replies.{Reply}
+use Rattle.reference.specs.StatusViews.{status_in}
 use Rattle.reference.specs.declared.fault.Fault.{Fault}
 use Rattle.reference.specs.declared.fault.Fault.TheVariants.{BadLimit, OutOfMemory, TooManyLeases}
 use Rattle.reference.specs.declared.fault.Fault.TheVariants.{UnknownQuery, UnknownStream}
+use Rattle.reference.specs.declared.status.Status.{Status}
 use Rattle.wire.specs.Calls.{Call, declare, register, append, heartbeat, drain, take_rows}
-use Rattle.wire.specs.Calls.{drop_query, forget, show_plan}
+use Rattle.wire.specs.Calls.{drop_query, forget, peek_rows, show_plan, show_status}
 use Rattle.wire.specs.Exchanges as exchanges
-use Rattle.wire.specs.Printed.{Answer, done, rows, operators, refused, unread}
+use Rattle.wire.specs.Printed.{Answer, done, rows, operators, refused, status, unread}
 use Rattle.wire.specs.declared.request.Request.{Request}
 use Rattle.wire.specs.declared.request.Request.TheVariants as request
 use Rattle.wire.specs.declared.request.WireFault.{WireFault}
@@ -28,11 +30,12 @@ use Rattle.workers.specs.declared.pool.TheConstants.{MAX_WORKERS}
 
 -- ---- one request
 
--- the first instant of a stream, the instant of a heartbeat or the limit of a take
+-- the first instant of a stream, the instant of a heartbeat, or the limit of a take or a peek
 abbrev pub number_in : Request → ℤ
 number_in (request.Stream name columns start) = start
 number_in (request.Heartbeat stream at) = at
 number_in (request.Take query limit) = limit
+number_in (request.Peek query limit) = limit
 number_in r = pos 0
 
 -- what a request is answered whose command has this reply in the history
@@ -76,6 +79,25 @@ abbrev pub LooksNamed : List ℕ → Answer → Type 0
 LooksNamed name answer =
     ((n : ℕ) × ((l : PlainLocked) × FindsQuery l name (Some n)) × Looks n answer)
     ⊎ (((l : PlainLocked) × FindsQuery l name None) × (answer ≡ refused UnknownQuery))
+
+-- what a look at the answers that a take would hand out is answered
+abbrev pub Peeks : ℕ → ℤ → Answer → Type 0
+Peeks n limit (rows found) = (l : PlainLocked) × SeesPeek (λ seen. seen) l n limit (Ok found)
+Peeks n limit (refused fault) = (l : PlainLocked)
+    × SeesPeek (λ (seen : List (ℤ × List (Option ℤ))). seen) l n limit (Err fault)
+Peeks n limit answer = ⊥
+
+abbrev pub PeeksNamed : List ℕ → ℤ → Answer → Type 0
+PeeksNamed name limit answer =
+    ((n : ℕ) × ((l : PlainLocked) × FindsQuery l name (Some n)) × Peeks n limit answer)
+    ⊎ (((l : PlainLocked) × FindsQuery l name None) × (answer ≡ refused UnknownQuery))
+
+-- what a look at how far all is is answered
+abbrev pub ShowsStatus : Answer → Type 0
+ShowsStatus (status found) = (l : PlainLocked) × (seen : Status) × (found ≡ status_in seen)
+    × SeesStatus l (Ok seen)
+ShowsStatus (refused fault) = (l : PlainLocked) × SeesStatus l (Err fault)
+ShowsStatus answer = ⊥
 
 -- ---- forgetting
 
@@ -138,6 +160,9 @@ Serves drains seat forget answer seat' = Forgets answer × (seat' ≡ seat)
 Serves drains seat (drop_query query) answer seat' =
     CarriesNamed FindsQuery query UnknownQuery Drop seat answer seat'
 Serves drains seat (show_plan query) answer seat' = LooksNamed query answer × (seat' ≡ seat)
+Serves drains seat (peek_rows query limit) answer seat' =
+    PeeksNamed query limit answer × (seat' ≡ seat)
+Serves drains seat show_status answer seat' = ShowsStatus answer × (seat' ≡ seat)
 
 -- what was asked for was answered; a line that is no request is told so, and calls nothing
 abbrev pub IsServed : (Answer → Type 0) → PlainSeat → Result Call WireFault → Answer
@@ -189,3 +214,27 @@ Stands drains = exchanges.Stands (Replies drains) forgets
 -- only more receipts are in the seat
 abbrev pub Keeps : PlainSeat → PlainSeat → Type 0
 Keeps old new = (more : List Told) × (new ≡ record old { receipts = old.receipts ++ more })
+
+-- ---- a seat that settles
+
+-- the seat settled in a step of the hub, or it is as it was
+abbrev pub MaySettle : PlainSeat → PlainSeat → Type 0
+MaySettle seat seat' = (seat' ≡ seat) ⊎ ((old : PlainLocked) × (new : PlainLocked)
+    × (result : Bool) × hub.Settles old seat result new seat')
+
+-- A REQUEST WAS ANSWERED SO by a seat that may settle before it and after it
+abbrev pub SettlesAround : (Answer → Type 0) → PlainSeat → Result Call WireFault → Answer
+    → PlainSeat → Type 0
+SettlesAround drains seat request answer seat' =
+    (first : PlainSeat) × (last : PlainSeat) × MaySettle seat first
+    × Replies drains first request answer last × MaySettle last seat'
+
+-- THE REQUESTS were answered by this text, as `Runs` says, by a seat that may settle
+abbrev pub RunsSettling : (Answer → Type 0) → PlainSeat → List (Result Call WireFault) → List ℕ
+    → Bool → PlainSeat → Type 0
+RunsSettling drains = exchanges.Runs (SettlesAround drains) forgets
+
+-- the first of them were carried out, as `Stands` says
+abbrev pub StandsSettling : (Answer → Type 0) → PlainSeat → List (Result Call WireFault) → List ℕ
+    → PlainSeat → Type 0
+StandsSettling drains = exchanges.Stands (SettlesAround drains) forgets

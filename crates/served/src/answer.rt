@@ -3,7 +3,7 @@ ghost use Rattle.hub.specs.Steps.{FindsQuery, FindsStream};
 ghost use Rattle.reference.specs.Commands.{Append, Drop, Heartbeat, Take};
 ghost use Rattle.reference.specs.declared.fault.Fault.TheVariants.{UnknownQuery, UnknownStream};
 ghost use Rattle.wire.specs.Printed.{answer_of};
-ghost use Rattle.served.specs.Serving.{CarriesNamed, LooksNamed};
+ghost use Rattle.served.specs.Serving.{CarriesNamed, LooksNamed, PeeksNamed, ShowsStatus};
 
 use hub::{Hub, Seat};
 use reference::{Fault, NewRows};
@@ -20,13 +20,28 @@ pub(crate) fn append<R: Wait>(
     ensures { CarriesNamed FindsStream stream.now UnknownStream (λ n. Append n rows) seat.old
         (answer_of result) seat.new }
 {
-    match hub.stream_named(rt, stream) {
-        Some(number) => done(hub.append(rt, seat, number, rows)),
-        None => Reply::Refused(Fault::UnknownStream),
-    }
+    done(hub.append_named(rt, seat, stream, rows))
 }
 
-pub(crate) fn heartbeat<R: Wait>(rt: &R, hub: &Hub, seat: &mut Seat, stream: &str, at: i64) -> Reply
+/// Closes instants of a stream. If the seat settles, that wakes the workers; otherwise this does.
+pub(crate) fn close_instants<R: Wait>(
+    rt: &R,
+    hub: &Hub,
+    seat: &mut Seat,
+    stream: &str,
+    at: i64,
+    settles: bool,
+) -> Reply
+    ensures { CarriesNamed FindsStream stream.now UnknownStream (λ n. Heartbeat n at) seat.old
+        (answer_of result) seat.new }
+{
+    if settles {
+        return done(hub.heartbeat_named(rt, seat, stream, at));
+    }
+    heartbeat(rt, hub, seat, stream, at)
+}
+
+fn heartbeat<R: Wait>(rt: &R, hub: &Hub, seat: &mut Seat, stream: &str, at: i64) -> Reply
     ensures { CarriesNamed FindsStream stream.now UnknownStream (λ n. Heartbeat n at) seat.old
         (answer_of result) seat.new }
 {
@@ -40,11 +55,8 @@ pub(crate) fn take<R: Wait>(rt: &R, hub: &Hub, seat: &mut Seat, query: &str, lim
     ensures { CarriesNamed FindsQuery query.now UnknownQuery (λ n. Take n limit) seat.old
         (answer_of result) seat.new }
 {
-    let Some(number) = hub.query_named(rt, query) else {
-        return Reply::Refused(Fault::UnknownQuery);
-    };
-    match hub.take(rt, seat, number, limit) {
-        Ok((rows, _)) => Reply::Rows(rows),
+    match hub.take_named(rt, seat, query, limit) {
+        Ok((rows, _)) => Reply::Shared(rows),
         Err(fault) => Reply::Refused(fault),
     }
 }
@@ -67,6 +79,27 @@ pub(crate) fn show_plan<R: Wait>(rt: &R, hub: &Hub, query: &str) -> Reply
     };
     match hub.slopes(rt, number) {
         Ok(operators) => Reply::Operators(operators),
+        Err(fault) => Reply::Refused(fault),
+    }
+}
+
+pub(crate) fn peek<R: Wait>(rt: &R, hub: &Hub, query: &str, limit: i64) -> Reply
+    ensures { PeeksNamed query.now limit (answer_of result) }
+{
+    let Some(number) = hub.query_named(rt, query) else {
+        return Reply::Refused(Fault::UnknownQuery);
+    };
+    match hub.peek(rt, number, limit) {
+        Ok(rows) => Reply::Rows(rows),
+        Err(fault) => Reply::Refused(fault),
+    }
+}
+
+pub(crate) fn show_status<R: Wait>(rt: &R, hub: &Hub) -> Reply
+    ensures { ShowsStatus (answer_of result) }
+{
+    match hub.status(rt) {
+        Ok(status) => Reply::Status(status),
         Err(fault) => Reply::Refused(fault),
     }
 }

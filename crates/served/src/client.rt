@@ -5,7 +5,7 @@ ghost use Rattle.wire.specs.Printed.{answer_of};
 ghost use Rattle.served.specs.Serving.{Replies, Serves, asks_forget, forgets, is_done};
 ghost use Rattle.served.specs.Serving.{number_in};
 
-use crate::answer::{append, drop_query, heartbeat, show_plan, take};
+use crate::answer::{append, close_instants, drop_query, peek, show_plan, show_status, take};
 use crate::drains::Drainer;
 use hub::{Hub, Seat};
 use std::sync::Wait;
@@ -18,6 +18,8 @@ pub(crate) struct Client<'a, R, D: Drainer> {
     pub(crate) rt: &'a R,
     pub(crate) hub: &'a Hub,
     pub(crate) drainer: D,
+    /// Says that its seat settles before its thread waits, and so wakes the workers.
+    pub(crate) settles: bool,
     ghost may_start: { ∥ D.may_start drainer ∥₁ },
 }
 
@@ -26,7 +28,12 @@ impl<R: Wait, D: Drainer> Responder<Seat> for Client<'_, R, D> {
 
     ghost notes = { λ c. forgets };
 
-    fn respond(&self, seat: &mut Seat, read: Result<Request, WireFault>) -> (Reply, bool) {
+    fn respond(
+        &self,
+        seat: &mut Seat,
+        read: Result<Request, WireFault>,
+        _waits: bool,
+    ) -> (Reply, bool) {
         match read {
             Ok(request) => {
                 let asks = asks_forget(&request);
@@ -56,13 +63,22 @@ impl<R: Wait, D: Drainer> Client<'_, R, D> {
                 append(self.rt, self.hub, seat, stream.as_str(), rows)
             }
             Request::Heartbeat { stream, .. } => {
-                heartbeat(self.rt, self.hub, seat, stream.as_str(), number)
+                close_instants(
+                    self.rt,
+                    self.hub,
+                    seat,
+                    stream.as_str(),
+                    number,
+                    self.settles,
+                )
             }
             Request::Drain => self.drainer.drain(self.hub),
             Request::Take { query, .. } => take(self.rt, self.hub, seat, query.as_str(), number),
             Request::Drop { query } => drop_query(self.rt, self.hub, seat, query.as_str()),
             Request::Forget => done(self.hub.forget(self.rt)),
             Request::Plan { query } => show_plan(self.rt, self.hub, query.as_str()),
+            Request::Peek { query, .. } => peek(self.rt, self.hub, query.as_str(), number),
+            Request::Status => show_status(self.rt, self.hub),
         }
     }
 }
@@ -73,20 +89,21 @@ fn asks_forget(request: &Request) -> bool
     matches!(request, Request::Forget)
 }
 
-fn is_done(reply: &Reply) -> bool
+pub(crate) fn is_done(reply: &Reply) -> bool
     ensures { result ≡ is_done (answer_of reply.now) }
 {
     matches!(reply, Reply::Done)
 }
 
-// Returns the first instant of a stream, the instant of a heartbeat or the limit of a take; else 0.
+// Returns the first instant of a stream, the instant of a heartbeat, or the limit of a take or a
+// peek; else 0.
 fn number_in(request: &Request) -> i64
     ensures { result ≡ number_in request.now }
 {
     match request {
         Request::Stream { from, .. } => *from,
         Request::Heartbeat { at, .. } => *at,
-        Request::Take { limit, .. } => *limit,
+        Request::Take { limit, .. } | Request::Peek { limit, .. } => *limit,
         _ => 0,
     }
 }

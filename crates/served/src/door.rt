@@ -1,7 +1,8 @@
 //! Keeps the door of a server: its listener, and how many connections are still to serve.
-ghost use Rattle.std.specs.Prelude.{◌≡◌, Some, false, true};
+ghost use Rattle.std.specs.Prelude.{◌≡◌, Some};
 ghost use Rattle.served.specs.Doors.{Admits};
 
+use crate::alarm::Failure;
 use std::net::{TcpListener, TcpStream};
 
 /// Holds what the client threads share, one at a time.
@@ -13,57 +14,59 @@ pub(crate) struct Door {
     pub(crate) left: Option<u64>,
     /// Says after how many seconds a silent connection is closed, if it is at all.
     pub(crate) idle: Option<u32>,
-    /// Says whether a connection could not be accepted.
-    pub(crate) accept_failed: bool,
-    /// Says whether a thread could not be started.
-    pub(crate) thread_failed: bool,
+    /// Says after how many values in its history the hub forgets. At 0 it never does by itself.
+    pub(crate) forget: u64,
 }
 
 impl Door {
     /// Makes a door that lets `left` connections in.
-    pub(crate) fn new(listener: TcpListener, left: Option<u64>, idle: Option<u32>) -> Door
+    pub(crate) fn new(
+        listener: TcpListener,
+        left: Option<u64>,
+        idle: Option<u32>,
+        forget: u64,
+    ) -> Door
         ensures { result ≡ record {
           listener = listener;
           left = left;
           idle = idle;
-          accept_failed = false;
-          thread_failed = false;
+          forget = forget;
         } }
     {
         Door {
             listener,
             left,
             idle,
-            accept_failed: false,
-            thread_failed: false,
+            forget,
         }
     }
 
     /// Accepts one connection. Returns `None` if there are no more.
-    pub(crate) fn accept(&mut self) -> Option<TcpStream>
+    ///
+    /// # Errors
+    /// `Accept` if the accept failed. Then nobody else comes in.
+    pub(crate) fn accept(&mut self) -> Result<Option<TcpStream>, Failure>
         ensures { Admits self.old result self.new }
     {
         if self.left == Some(0) {
-            return None;
+            return Ok(None);
         }
         match self.listener.accept() {
             Ok((stream, _)) => {
                 self.left = self.left.map(|left| left.saturating_sub(1));
-                Some(stream)
+                Ok(Some(stream))
             }
             Err(_) => {
                 self.left = Some(0);
-                self.accept_failed = true;
-                None
+                Err(Failure::Accept)
             }
         }
     }
 
-    /// Lets no more connections in, since a thread could not be started.
-    pub(crate) fn lack_thread(&mut self)
-        ensures { self.new ≡ record self.old { left = Some 0; thread_failed = true } }
+    /// Lets no more connections in.
+    pub(crate) fn shut(&mut self)
+        ensures { self.new ≡ record self.old { left = Some 0 } }
     {
         self.left = Some(0);
-        self.thread_failed = true;
     }
 }

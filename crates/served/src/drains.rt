@@ -1,9 +1,9 @@
 //! Drains the hub: says which threads run the turns.
-ghost use Rattle.std.specs.Prelude.{⊤, IfSome};
+ghost use Rattle.std.specs.Prelude.{⊤, IfSome, OnOk};
 ghost use Rattle.reference.specs.World.{IsTurnSize};
 ghost use Rattle.wire.specs.Printed.{Answer, answer_of};
 ghost use Rattle.served.specs.Crossing.{IsShared};
-ghost use Rattle.served.specs.Serving.{ClientDrains, PoolDrains};
+ghost use Rattle.served.specs.Serving.{ClientDrains, PoolDrains, WasIdle};
 
 use hub::{Hub, LeaseRest};
 use leases::Leased;
@@ -13,6 +13,12 @@ use std::sync::Wait;
 use std::thread::Threads;
 use wire::{Reply, done};
 use workers::{MAX_WORKERS, NoGate, Pool, bring_back};
+
+/// Limits the turns that a drain runs under one taking of the lock.
+const TURNS: u64 = 64;
+
+/// Says how often a drain takes the lock before it wakes workers that may help.
+const STEPS_ALONE: u32 = 16;
 
 /// Runs the turns of a drain.
 pub(crate) trait Drainer {
@@ -74,6 +80,28 @@ impl<R: Wait> Drainer for OwnDrainer<'_, R> {
     }
 }
 
+// Runs turns in place, at most `TURNS` under one taking of the lock, so that other clients are
+// answered in between. Ends when nothing is ready. Only a long drain wakes workers.
+fn drain_in_place<R: Wait>(rt: &R, hub: &Hub, rows: u32) -> Result<(), Fault>
+    ensures { OnOk result (WasIdle rows) }
+{
+    for _ in 0..STEPS_ALONE {
+        match hub.drain_some_alone(rt, rows, TURNS) {
+            Ok(true) => {}
+            Ok(false) => return Ok(()),
+            Err(fault) => return Err(fault),
+        }
+    }
+    for _ in rt.forever() {
+        match hub.drain_some(rt, rows, TURNS) {
+            Ok(true) => {}
+            Ok(false) => return Ok(()),
+            Err(fault) => return Err(fault),
+        }
+    }
+    unreachable!()
+}
+
 // Runs turns in place, under the lock: a turn costs less there than in another thread. Returns the
 // reply, or nothing if a pool has to run what is left.
 fn run_in_place<R: Wait>(rt: &R, alloc: Global, hub: &Hub, workers: u64, rows: u32) -> Option<Reply>
@@ -83,7 +111,7 @@ fn run_in_place<R: Wait>(rt: &R, alloc: Global, hub: &Hub, workers: u64, rows: u
     if workers == 0 || workers > MAX_WORKERS {
         return None;
     }
-    if let Err(Fault::OutOfMemory) = hub.drain(rt, rows) {
+    if let Err(Fault::OutOfMemory) = drain_in_place(rt, hub, rows) {
         return Some(Reply::Refused(Fault::OutOfMemory));
     }
     match hub.lease_or_rest(rt, rows) {
@@ -104,8 +132,10 @@ fn run_turns<R: Wait>(rt: &R, alloc: Global, hub: &Hub, rows: u32) -> Reply
     requires { IsTurnSize rows }
     ensures { ClientDrains rows (answer_of result) }
 {
-    if let Err(Fault::OutOfMemory) = hub.drain(rt, rows) {
-        return Reply::Refused(Fault::OutOfMemory);
+    match drain_in_place(rt, hub, rows) {
+        Ok(()) => return Reply::Done,
+        Err(Fault::OutOfMemory) => return Reply::Refused(Fault::OutOfMemory),
+        Err(_) => {}
     }
     for _ in rt.forever() {
         let turn = match hub.lease(rt, rows) {

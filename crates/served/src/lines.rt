@@ -62,7 +62,12 @@ pub fn run_hub<R: Threads + Wait + Sync, S: Source, K: Sink>(
         workers,
         rows,
     };
-    let client = Client { rt, hub, drainer };
+    let client = Client {
+        rt,
+        hub,
+        drainer,
+        settles: false,
+    };
     answer_requests(alloc, source, sink, &client, seat)
 }
 
@@ -103,6 +108,11 @@ pub fn serve_connection<R: Threads + Wait + Sync, S: Source, K: Sink>(
         → (source.new ≡ source.old) × (sink.new ≡ sink.old) × (seat.new ≡ seat.old)) }
 {
     let drainer = OwnDrainer { rt, alloc, rows };
-    let connection = Client { rt, hub, drainer };
+    let connection = Client {
+        rt,
+        hub,
+        drainer,
+        settles: false,
+    };
     answer_requests(alloc, source, sink, &connection, seat)
 }

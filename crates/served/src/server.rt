@@ -1,11 +1,14 @@
 //! Runs a server: client threads accept connections in turn, and workers run turns.
-ghost use Rattle.std.specs.Prelude.{◌≡◌, ◌≤◌, ◌⊎◌, OnErr};
+ghost use Rattle.std.specs.Prelude.{◌≡◌, ◌≤◌, ◌⊎◌, OnErr, false, true};
 ghost use Rattle.hub.specs.declared.locked.TheConstants.{MAX_SEATS};
-ghost use Rattle.served.specs.Errors.{IsTold, IsToldAddress, accept_line, close_line};
-ghost use Rattle.served.specs.Errors.{memory_line, thread_line};
+ghost use Rattle.served.specs.Errors.{IsTold, IsToldAddress, accept_line, audit_line};
+ghost use Rattle.served.specs.Errors.{close_line, memory_line, thread_line};
+ghost use Rattle.served.specs.Failures.{IsToldFirst};
 
+use crate::alarm::{Alarm, Failure};
+use crate::connection::Connection;
 use crate::door::Door;
-use crate::lines::serve_connection;
+use crate::duty::{Duty, Telling, take_back};
 use command_lines::ServeOptions;
 use hub::{Hub, MAX_HISTORY, Seat};
 use std::alloc::{AllocError, Global};
@@ -15,15 +18,16 @@ use std::thread::{JoinHandle, Threads};
 use std::time::Duration;
 use std::{io, thread};
 use wire::{ReaderSource, Sink, WriterSink, put};
-use workers::{NoGate, work};
+use workers::{NoGate, help};
 
 /// Limits the rows of a turn.
 const ROWS: u32 = 256;
 
 /// Runs the server once its listener is bound: says where it listens, answers connections, closes
-/// the hub, and returns its status. The status is 0 if nothing failed. It is 1 if a connection
-/// could not be accepted, or if the history and the seats differ at the end. It is 3 when out of
-/// memory at the start, or if a thread could not be started. One line on `errors` says what failed.
+/// the hub, and returns its status. The status is 0 if nothing failed, and the history and the
+/// seats agree at the end. It is 1 if a connection could not be accepted, or if the history and a
+/// seat differ. It is 3 when out of memory at the start, or if a thread could not be started. One
+/// line on `errors` says what failed first, as soon as it does.
 pub fn serve<R: Threads + Wait + Sync, O: Sink, E: Sink>(
     rt: &R,
     alloc: Global,
@@ -38,40 +42,78 @@ pub fn serve<R: Threads + Wait + Sync, O: Sink, E: Sink>(
     ensures silent { result ≡ 0 → errors.new ≡ errors.old }
     ensures failed { result ≡ 1
         → IsTold E.taken E.failures errors.old errors.new accept_line
+        ⊎ IsTold E.taken E.failures errors.old errors.new audit_line
         ⊎ IsTold E.taken E.failures errors.old errors.new close_line }
     ensures lacks { result ≡ 3
         → IsTold E.taken E.failures errors.old errors.new memory_line
         ⊎ IsTold E.taken E.failures errors.old errors.new thread_line }
 {
     let clients = options.clients as u64;
-    let Ok((hub, seats)) = Hub::open(alloc, clients, MAX_HISTORY) else {
-        return lack_memory(errors);
-    };
+    match Hub::open(alloc, clients, MAX_HISTORY) {
+        Ok((hub, seats)) => serve_hub(rt, alloc, listener, options, hub, seats, sink, errors),
+        Err(_) => lack_memory(errors),
+    }
+}
+
+/// Does what `serve` does, over a hub that is open already and never forgot. As many connections
+/// are answered at a time as there are seats. `seats` are all of the hub's; if a receipt of one is
+/// missing, the status is 1.
+pub fn serve_hub<R: Threads + Wait + Sync, O: Sink, E: Sink>(
+    rt: &R,
+    alloc: Global,
+    listener: TcpListener,
+    options: &ServeOptions,
+    hub: Hub,
+    seats: Vec<Seat>,
+    sink: &mut O,
+    errors: &mut E,
+) -> u8
+    ensures status { (result ≡ 0) ⊎ (result ≡ 1) ⊎ (result ≡ 3) }
+    ensures sink { IsToldAddress O.taken O.failures sink.old sink.new }
+    ensures silent { result ≡ 0 → errors.new ≡ errors.old }
+    ensures failed { result ≡ 1
+        → IsTold E.taken E.failures errors.old errors.new accept_line
+        ⊎ IsTold E.taken E.failures errors.old errors.new audit_line
+        ⊎ IsTold E.taken E.failures errors.old errors.new close_line }
+    ensures lacks { result ≡ 3
+        → IsTold E.taken E.failures errors.old errors.new memory_line
+        ⊎ IsTold E.taken E.failures errors.old errors.new thread_line }
+{
     if tell_address(alloc, &listener, sink).is_err() {
         return lack_memory(errors);
     }
     let left = options.serve.map(|connections| connections as u64);
-    let door = Mutex::new(Door::new(listener, left, options.idle));
-    let Some(seats) = run_threads(rt, alloc, &door, &hub, seats, options.workers) else {
+    let door = Mutex::new(Door::new(listener, left, options.idle, options.forget));
+    let Ok(room) = Room::new(alloc, seats.len()) else {
         return lack_memory(errors);
     };
-    let closed = hub.close(seats);
-    let door = door.into_inner();
-    if door.thread_failed {
-        tell(errors, "cqld: thread failed\n");
-        return 3;
+    let (first, seats) = run_telling(rt, alloc, &door, &hub, seats, options.workers, room, errors);
+    let agrees = close(hub, seats);
+    match first {
+        Some(failure) => failure.status(),
+        None => tell_close(agrees, errors),
     }
-    if door.accept_failed {
-        tell(errors, "cqld: accept failed\n");
-        return 1;
+}
+
+// Closes the hub. Returns whether the history and the seats agree.
+fn close(hub: Hub, seats: Vec<Seat>) -> bool {
+    hub.close(seats).is_ok()
+}
+
+// Returns the status of a server in which nothing failed before its hub was closed. Says so if that
+// failed.
+fn tell_close<E: Sink>(agrees: bool, errors: &mut E) -> u8
+    ensures status { (result ≡ 0) ⊎ (result ≡ 1) }
+    ensures well { agrees ≡ true → result ≡ 0 }
+    ensures differs { agrees ≡ false → result ≡ 1 }
+    ensures silent { result ≡ 0 → errors.new ≡ errors.old }
+    ensures failed { result ≡ 1 → IsTold E.taken E.failures errors.old errors.new close_line }
+{
+    if agrees {
+        return 0;
     }
-    match closed {
-        Ok(_) => 0,
-        Err(_) => {
-            tell(errors, "cqld: close failed\n");
-            1
-        }
-    }
+    tell(errors, "cqld: close failed\n");
+    1
 }
 
 fn lack_memory<E: Sink>(errors: &mut E) -> u8
@@ -101,53 +143,122 @@ fn tell_address<O: Sink>(
     Ok(())
 }
 
-// Starts the threads while nobody may come in, and returns the seats once the clients have ended.
-// Returns `None` when out of memory before the first is started.
-fn run_threads<R: Threads + Wait + Sync>(
+// Has room for what the calling thread holds of each client thread.
+#[derive(Drop)]
+struct Room {
+    // Will hold the threads that run.
+    handles: Vec<JoinHandle<Seat>>,
+    // Will hold the seats of those that ended.
+    seats: Vec<Seat>,
+}
+
+impl Room {
+    // Makes room for so many clients. `AllocError` when out of memory.
+    fn new(alloc: Global, clients: usize) -> Result<Room, AllocError> {
+        let handles = Vec::with_capacity(alloc, clients)?;
+        let seats = Vec::with_capacity(alloc, clients)?;
+        Ok(Room { handles, seats })
+    }
+}
+
+// Runs the threads, and returns the seats. Says on `errors` what fails first, as soon as it does,
+// and returns it.
+fn run_telling<R: Threads + Wait + Sync, E: Sink>(
     rt: &R,
     alloc: Global,
     door: &Mutex<Door>,
     hub: &Hub,
     seats: Vec<Seat>,
     workers: u32,
-) -> Option<Vec<Seat>> {
-    let mut handles: Vec<JoinHandle<Seat>> = Vec::with_capacity(alloc, seats.len()).ok()?;
-    let mut back = Vec::with_capacity(alloc, seats.len()).ok()?;
-    thread::scope(thread::scope_env(), rt, move |scope| {
-        let mut held = door.lock(rt);
-        for _ in 0..workers {
-            if scope
-                .spawn(move || work(rt, alloc, hub, &NoGate, ROWS))
-                .is_err()
-            {
-                held.lack_thread();
-            }
-        }
-        for seat in seats {
-            match scope.spawn(move || client(rt, alloc, door, hub, seat)) {
-                Ok(handle) => {
-                    // there is room for the handles of all seats
-                    let _ = handles.push(handle);
+    room: Room,
+    errors: &mut E,
+) -> (Option<Failure>, Vec<Seat>)
+    ensures { IsToldFirst E.taken E.failures errors.old errors.new result.0 }
+{
+    let alarm = Alarm::new(seats.len() as u64);
+    let duty = Telling { errors };
+    let ((errors, first), seats) = run_threads(
+        rt, alloc, door, &alarm, hub, seats, workers, room, duty,
+    );
+    take_back(errors);
+    (first, seats)
+}
+
+// Starts the threads while nobody may come in, does its duty, and returns the seats once the
+// clients have ended.
+fn run_threads<R: Threads + Wait + Sync, D: Duty + Drop>(
+    rt: &R,
+    alloc: Global,
+    door: &Mutex<Door>,
+    alarm: &Alarm,
+    hub: &Hub,
+    seats: Vec<Seat>,
+    workers: u32,
+    room: Room,
+    duty: D,
+) -> (D::Output, Vec<Seat>)
+    ensures { D.gives duty result.0 }
+{
+    thread::scope(
+        thread::scope_env(),
+        rt,
+        move |scope| -> (D::Output, Vec<Seat>)
+            ensures { D.gives duty result.0 }
+        {
+            let Room {
+                mut handles,
+                seats: mut back,
+            } = room;
+            let mut held = door.lock(rt);
+            for _ in 0..workers {
+                if scope
+                    .spawn(move || help(rt, alloc, hub, &NoGate, ROWS))
+                    .is_err()
+                {
+                    lack_thread(rt, &mut held, alarm);
                 }
-                Err(_) => held.lack_thread(),
             }
-        }
-        drop(held);
-        for handle in handles {
-            let _ = back.push(handle.join(rt));
-        }
-        hub.end(rt);
-        Some(back)
-    })
+            for seat in seats {
+                match scope.spawn(move || client(rt, alloc, door, alarm, hub, seat)) {
+                    Ok(handle) => {
+                        // there is room for the handles of all seats
+                        let _ = handles.push(handle);
+                    }
+                    Err(_) => lack_client(rt, &mut held, alarm),
+                }
+            }
+            drop(held);
+            let output = duty.fulfil(rt, alarm);
+            for handle in handles {
+                let _ = back.push(handle.join(rt));
+            }
+            hub.end(rt);
+            (output, back)
+        },
+    )
+}
+
+// Lets nobody in, since a thread could not be started.
+fn lack_thread<R: Wait>(rt: &R, door: &mut Door, alarm: &Alarm) {
+    door.shut();
+    alarm.ring(rt, Failure::Thread);
+}
+
+// Does so for a thread of a client, which will not end.
+fn lack_client<R: Wait>(rt: &R, door: &mut Door, alarm: &Alarm) {
+    lack_thread(rt, door, alarm);
+    alarm.leave(rt);
 }
 
 // Serves connections until there are no more, and returns the seat. A device that fails, or a
-// connection that cannot be set up, ends only that connection. After each, the seat settles: its
-// receipts are compared with the history and let go. Those that differ stay for `close`.
+// connection that cannot be set up, ends only that connection. The seat settles while it is served,
+// and after each connection: its receipts are compared with the history and let go. Those that
+// differ stay for `close`, and ring the alarm. So does a failed accept.
 fn client<R: Threads + Wait + Sync>(
     rt: &R,
     alloc: Global,
     door: &Mutex<Door>,
+    alarm: &Alarm,
     hub: &Hub,
     mut seat: Seat,
 ) -> Seat
@@ -157,19 +268,40 @@ fn client<R: Threads + Wait + Sync>(
         let mut held = door.lock(rt);
         let accepted = held.accept();
         let idle = held.idle;
+        let forget = held.forget;
         drop(held);
-        let Some(stream) = accepted else {
+        let Some(stream) = admitted(rt, alarm, accepted) else {
             break;
         };
         if prepare(&stream, idle).is_err() {
             continue;
         }
+        let connection = Connection::watched(rt, alloc, hub, ROWS, forget, alarm);
         let mut source = ReaderSource::new(&stream);
         let mut sink = WriterSink::new(&stream);
-        let _ = serve_connection(rt, alloc, &mut source, &mut sink, hub, &mut seat, ROWS);
-        let _ = hub.settle(rt, &mut seat);
+        let _ = connection.serve(&mut source, &mut sink, &mut seat);
+        let agrees = hub.settle(rt, &mut seat);
+        if !agrees {
+            alarm.ring(rt, Failure::Audit);
+        }
     }
+    alarm.leave(rt);
     seat
+}
+
+// Returns the connection that was accepted, if there is one. Rings the alarm if the accept failed.
+fn admitted<R: Wait>(
+    rt: &R,
+    alarm: &Alarm,
+    accepted: Result<Option<TcpStream>, Failure>,
+) -> Option<TcpStream> {
+    match accepted {
+        Ok(stream) => stream,
+        Err(failure) => {
+            alarm.ring(rt, failure);
+            None
+        }
+    }
 }
 
 // Lets replies leave at once. Lets reads and writes fail that wait for `idle` seconds.

@@ -33,48 +33,48 @@ name_free m name columns start h =
 
 -- ---- a step on each machine that has the streams
 module _ {A B : Type 0} (view : A → B) (step : World → Step B) (old next : List Stream) (a : B) (first : Option Fault)
-    (is : (qs : List Registered) (ws : List (List (ℕ × Row))) → step (beside qs ws old) ≡ unless first (beside qs ws old) a (beside qs ws next)) where
+    (is : (qs : List Registered) (ws : List (List (ℕ × Row))) (us : List ℕ) → step (beside qs ws us old) ≡ unless first (beside qs ws us old) a (beside qs ws us next)) where
   pub beside_refused : (f : Fault) → Some f ≡ first → IsTold f → DoesBeside view step old (Err f) old
   beside_refused f e t = record {
-    does = λ qs ws. subst (λ (s : Step B). Does view (beside qs ws old) s (Err f) (beside qs ws old)) (sym (is qs ws)) (refused view (beside qs ws old) (beside qs ws next) a first f e t);
+    does = λ qs ws us. subst (λ (s : Step B). Does view (beside qs ws us old) s (Err f) (beside qs ws us old)) (sym (is qs ws us)) (refused view (beside qs ws us old) (beside qs ws us next) a first f e t);
   }
 
   pub beside_lacked : (new : List Stream) → None ≡ first → new ≡ old → DoesBeside view step old (Err OutOfMemory) new
   beside_lacked new e same = record {
-    does = λ qs ws. subst (λ (s : Step B). Does view (beside qs ws old) s (Err OutOfMemory) (beside qs ws new)) (sym (is qs ws))
-        (lacked view (beside qs ws old) (beside qs ws next) a first (beside qs ws new) e (ap (beside qs ws) same));
+    does = λ qs ws us. subst (λ (s : Step B). Does view (beside qs ws us old) s (Err OutOfMemory) (beside qs ws us new)) (sym (is qs ws us))
+        (lacked view (beside qs ws us old) (beside qs ws us next) a first (beside qs ws us new) e (ap (beside qs ws us) same));
   }
 
   pub beside_done : (r : A) (new : List Stream) → None ≡ first → view r ≡ a → new ≡ next → DoesBeside view step old (Ok r) new
   beside_done r new e v same = record {
-    does = λ qs ws. subst (λ (s : Step B). Does view (beside qs ws old) s (Ok r) (beside qs ws new)) (sym (is qs ws))
-        (done view (beside qs ws old) (beside qs ws next) a first r (beside qs ws new) e v (ap (beside qs ws) same));
+    does = λ qs ws us. subst (λ (s : Step B). Does view (beside qs ws us old) s (Ok r) (beside qs ws us new)) (sym (is qs ws us))
+        (done view (beside qs ws us old) (beside qs ws us next) a first r (beside qs ws us new) e v (ap (beside qs ws us) same));
   }
 
 -- ---- the same beside such queries
 module _ {A B : Type 0} (Such : List Registered → Type 0) (view : A → B) (step : World → Step B) (old next : List Stream) (a : B) (first : Option Fault)
-    (is : (qs : List Registered) (ws : List (List (ℕ × Row))) → Such qs → step (beside qs ws old) ≡ unless first (beside qs ws old) a (beside qs ws next)) where
+    (is : (qs : List Registered) (ws : List (List (ℕ × Row))) (us : List ℕ) → Such qs → step (beside qs ws us old) ≡ unless first (beside qs ws us old) a (beside qs ws us next)) where
   pub such_refused : (f : Fault) → Some f ≡ first → IsTold f → DoesBesideSuch Such view step old (Err f) old
   such_refused f e t = record {
-    does = λ qs ws h. subst (λ (s : Step B). Does view (beside qs ws old) s (Err f) (beside qs ws old)) (sym (is qs ws h)) (refused view (beside qs ws old) (beside qs ws next) a first f e t);
+    does = λ qs ws us h. subst (λ (s : Step B). Does view (beside qs ws us old) s (Err f) (beside qs ws us old)) (sym (is qs ws us h)) (refused view (beside qs ws us old) (beside qs ws us next) a first f e t);
   }
 
   pub such_lacked : (new : List Stream) → None ≡ first → new ≡ old → DoesBesideSuch Such view step old (Err OutOfMemory) new
   such_lacked new e same = record {
-    does = λ qs ws h. subst (λ (s : Step B). Does view (beside qs ws old) s (Err OutOfMemory) (beside qs ws new)) (sym (is qs ws h))
-        (lacked view (beside qs ws old) (beside qs ws next) a first (beside qs ws new) e (ap (beside qs ws) same));
+    does = λ qs ws us h. subst (λ (s : Step B). Does view (beside qs ws us old) s (Err OutOfMemory) (beside qs ws us new)) (sym (is qs ws us h))
+        (lacked view (beside qs ws us old) (beside qs ws us next) a first (beside qs ws us new) e (ap (beside qs ws us) same));
   }
 
   pub such_done : (r : A) (new : List Stream) → None ≡ first → view r ≡ a → new ≡ next → DoesBesideSuch Such view step old (Ok r) new
   such_done r new e v same = record {
-    does = λ qs ws h. subst (λ (s : Step B). Does view (beside qs ws old) s (Ok r) (beside qs ws new)) (sym (is qs ws h))
-        (done view (beside qs ws old) (beside qs ws next) a first r (beside qs ws new) e v (ap (beside qs ws) same));
+    does = λ qs ws us h. subst (λ (s : Step B). Does view (beside qs ws us old) s (Ok r) (beside qs ws us new)) (sym (is qs ws us h))
+        (done view (beside qs ws us old) (beside qs ws us next) a first r (beside qs ws us new) e v (ap (beside qs ws us) same));
   }
 
-pub declare_is : (old : List Stream) (name : List ℕ) (columns : List (List ℕ)) (start : ℤ) (qs : List Registered) (ws : List (List (ℕ × Row)))
-    → declare_step (beside qs ws old) name columns start ≡ unless (first_fault (machine_of old) (Declare name columns start)) (beside qs ws old) (length old) (beside qs ws (declared (machine_of old) name columns start).streams)
+pub declare_is : (old : List Stream) (name : List ℕ) (columns : List (List ℕ)) (start : ℤ) (qs : List Registered) (ws : List (List (ℕ × Row))) (us : List ℕ)
+    → declare_step (beside qs ws us old) name columns start ≡ unless (first_fault (machine_of old) (Declare name columns start)) (beside qs ws us old) (length old) (beside qs ws us (declared (machine_of old) name columns start).streams)
 unfolding declare_step
-declare_is old name columns start qs ws = refl
+declare_is old name columns start qs ws us = refl
 
 -- AN APPEND by the row limit of the machine's queries
 same_last : (tests : List (Bool × Fault)) (c d : Bool) (f : Fault) → (first_of tests ≡ None → c ≡ d) → first_of (tests ++ (c, f) ∷ []) ≡ first_of (tests ++ (d, f) ∷ [])
@@ -88,11 +88,11 @@ limited_first n most rows qs limit (Some s) =
     same_last (append_tests s rows) (list_any (is_crowded n (s.arrivals + length rows)) qs) (nat_lt most (s.arrivals + length rows)) StreamFull
     (λ none. limit.crowds (s.arrivals + length rows) (accepted_each s rows none).3)
 
-pub append_is : (old : List Stream) (n most : ℕ) (rows : List (ℤ × List (Option ℤ))) (qs : List Registered) (ws : List (List (ℕ × Row))) → IsLimit n most qs
-    → append_step (beside qs ws old) n rows ≡ unless (of_stream (limited_tests most rows) (slice_get old n)) (beside qs ws old) tt (beside qs ws (change n (appended rows) old))
+pub append_is : (old : List Stream) (n most : ℕ) (rows : List (ℤ × List (Option ℤ))) (qs : List Registered) (ws : List (List (ℕ × Row))) (us : List ℕ) → IsLimit n most qs
+    → append_step (beside qs ws us old) n rows ≡ unless (of_stream (limited_tests most rows) (slice_get old n)) (beside qs ws us old) tt (beside qs ws us (change n (appended rows) old))
 unfolding append_step
-append_is old n most rows qs ws limit =
-    ap (λ (o : Option Fault). unless o (beside qs ws old) tt (beside qs ws (change n (appended rows) old))) (limited_first n most rows qs limit (slice_get old n))
+append_is old n most rows qs ws us limit =
+    ap (λ (o : Option Fault). unless o (beside qs ws us old) tt (beside qs ws us (change n (appended rows) old))) (limited_first n most rows qs limit (slice_get old n))
 
 -- the tests with the limit, one part behind the other
 pub refused_limited : (most : ℕ) (rows : List (ℤ × List (Option ℤ))) (s : Stream) (f : Fault) → Some f ≡ first_of (append_tests s rows) → Some f ≡ first_of (limited_tests most rows s)

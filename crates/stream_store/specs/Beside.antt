@@ -11,10 +11,14 @@ use Rattle.reference.specs.declared.fault.Fault.{Fault}
 use Rattle.reference.specs.declared.fault.Fault.TheVariants.{StreamFull}
 use Rattle.reference.specs.declared.limits.TheConstants.{MAX_STREAM_ROWS}
 
--- a machine of these queries and streams, and the answers that wait
-abbrev pub beside : List Registered → List (List (ℕ × Row)) → List Stream → World
-beside queries waiting streams =
-    record { machine = record { streams = streams; queries = queries }; waiting = waiting }
+-- a machine of these queries and streams, the answers
+-- that wait, and up to where the queries are complete
+abbrev pub beside : List Registered → List (List (ℕ × Row)) → List ℕ → List Stream → World
+beside queries waiting upto streams = record {
+  machine = record { streams = streams; queries = queries };
+  waiting = waiting;
+  upto = upto;
+}
 
 -- THE ROW LIMIT of the machine's queries: to the stream of a number so many rows may come
 -- in all; more than these, and no more than any stream may have, crowd one of the queries
@@ -30,14 +34,15 @@ limited_tests most rows s = append_tests s rows
 -- The call did to the streams what the step does to each machine that has them.
 pub record DoesBeside {A B : Type 0} (view : A → B) (step : World → Step B) (old : List Stream)
     (result : Result A Fault) (new : List Stream) : Type 0 where
-  pub does : (queries : List Registered) (waiting : List (List (ℕ × Row)))
-      → Does view (beside queries waiting old) (step (beside queries waiting old)) result
-      (beside queries waiting new)
+  pub does : (queries : List Registered) (waiting : List (List (ℕ × Row))) (upto : List ℕ)
+      → Does view (beside queries waiting upto old) (step (beside queries waiting upto old)) result
+      (beside queries waiting upto new)
 
 -- The same of each machine that has them beside such queries.
 pub record DoesBesideSuch {A B : Type 0} (Such : List Registered → Type 0) (view : A → B)
     (step : World → Step B) (old : List Stream) (result : Result A Fault)
     (new : List Stream) : Type 0 where
-  pub does : (queries : List Registered) (waiting : List (List (ℕ × Row))) → Such queries
-      → Does view (beside queries waiting old) (step (beside queries waiting old)) result
-      (beside queries waiting new)
+  pub does : (queries : List Registered) (waiting : List (List (ℕ × Row))) (upto : List ℕ)
+      → Such queries
+      → Does view (beside queries waiting upto old) (step (beside queries waiting upto old)) result
+      (beside queries waiting upto new)

@@ -80,6 +80,13 @@ impl Streams {
         self.streams.len()
     }
 
+    /// Returns the declared streams, by number. Takes no memory.
+    pub fn all(&self) -> &[Stored]
+        ensures { result.now ≡ self.now }
+    {
+        &self.streams
+    }
+
     fn stream_at(&self, number: u64) -> Option<&Stored>
         ensures { MatchOption result (slice_get self.now number ≡ None) (λ s.
             slice_get self.now number ≡ Some s.now) }

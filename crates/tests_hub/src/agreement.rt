@@ -1,6 +1,6 @@
 //! Tests that a hub answers as an engine of one thread does.
 
-use crate::fixture::{declare, opened, ready, register};
+use crate::fixture::{declare, entries_of, opened, ready, register};
 use crate::scripts::is_answered_by;
 use hub::Hub;
 use leases::Leased;
@@ -177,8 +177,8 @@ fn pending_counts_rows_and_ticks_in_each_queue(rt: HostRuntime) -> Result<(), Fa
     Ok(())
 }
 
-// Leases the next turn of a hub, and runs it.
-fn next_done<R: Wait>(rt: &R, alloc: Global, hub: &Hub) -> Result<Option<Done>, Fault> {
+/// Leases the next turn of a hub, and runs it.
+pub(crate) fn next_done<R: Wait>(rt: &R, alloc: Global, hub: &Hub) -> Result<Option<Done>, Fault> {
     match hub.lease(rt, 256)? {
         Leased::Idle => Ok(None),
         Leased::Turn(turn) => match turn.run(alloc) {
@@ -294,8 +294,10 @@ fn is_out_again<R: Wait>(rt: &R, alloc: Global, hub: &Hub) -> Result<bool, Fault
 
 #[test]
 fn an_abandoned_turn_goes_out_again_with_its_item(rt: HostRuntime) -> Result<(), Fail> {
-    let (hub, _) = ready(&rt, rt.alloc(), 5)?;
+    let (hub, seat) = ready(&rt, rt.alloc(), 5)?;
     assert!(rt; is_out_again(&rt, rt.alloc(), &hub)?);
+    // no turn changed the history: stream, query, append and heartbeat are there
+    assert_eq!(rt; entries_of(rt.alloc(), hub, seat)?, Some(4));
     Ok(())
 }
 

@@ -88,7 +88,8 @@ pub(crate) fn filled<R: Wait>(rt: &R, alloc: Global, value: i64) -> Result<(Hub,
     Ok((hub, seat))
 }
 
-/// Makes the same, with the instant closed: two items wait for the window.
+/// Makes a hub whose query `q` has one row, at the instant 0, which is closed: two items wait for
+/// the window.
 pub(crate) fn ready<R: Wait>(rt: &R, alloc: Global, value: i64) -> Result<(Hub, Seat), Fault> {
     let (hub, mut seat) = filled(rt, alloc, value)?;
     hub.heartbeat(rt, &mut seat, 0, 0)?;

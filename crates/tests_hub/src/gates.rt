@@ -1,11 +1,11 @@
 //! Tests that turns overlap, and that clients are answered while a turn is out.
 
-use crate::fixture::{declare, opened, register, rows};
+use crate::fixture::{declare, opened, ready, register, rows};
 use hub::{Hub, Seat};
 use reference::Fault;
 use std::alloc::Global;
 use std::sync::Wait;
-use std::sync::atomic::{AtomicBool, Ordering};
+use std::sync::atomic::{AtomicBool, AtomicU64, Ordering};
 use std::test::Fail;
 use std::thread;
 use std::thread::Threads;
@@ -101,6 +101,93 @@ fn overlap_in_a_pool<R: Threads + Wait + Clock + Sync>(rt: &R, alloc: Global, hu
 fn a_pool_runs_two_turns_at_once(rt: HostRuntime) -> Result<(), Fail> {
     let (hub, _) = two_ready(&rt, rt.alloc())?;
     assert!(rt; overlap_in_a_pool(&rt, rt.alloc(), &hub));
+    Ok(())
+}
+
+/// Holds every turn back until as many are out at once.
+#[derive(Drop)]
+struct Together<'a, R: Clock> {
+    rt: &'a R,
+    /// Counts the turns that went out.
+    out: AtomicU64,
+    /// Says how many have to be out at once.
+    wanted: u64,
+    /// Says that they were not in time.
+    is_late: AtomicBool,
+}
+
+impl<'a, R: Clock> Gate for Together<'a, R> {
+    fn before(&self, _lease: u64) {
+        self.out.fetch_add(1, Ordering::SeqCst);
+        for _ in 0..LOOKS {
+            if self.out.load(Ordering::SeqCst) >= self.wanted {
+                return;
+            }
+            thread::sleep(self.rt, Duration::from_millis(1));
+        }
+        self.is_late.store(true, Ordering::SeqCst);
+    }
+
+    fn after(&self, _lease: u64) {}
+}
+
+// Returns whether a pool of four runs four turns at once.
+fn four_overlap<R: Threads + Wait + Clock + Sync>(rt: &R, alloc: Global) -> Result<bool, Fault> {
+    let (hub, mut seat) = opened(alloc)?;
+    declare(rt, alloc, &hub, &mut seat)?;
+    for name in ["p", "q", "r", "s"] {
+        register(rt, alloc, &hub, &mut seat, name, None)?;
+    }
+    hub.heartbeat(rt, &mut seat, 0, 0)?;
+    let gate = Together {
+        rt,
+        out: AtomicU64::new(0),
+        wanted: 4,
+        is_late: AtomicBool::new(false),
+    };
+    let drained = Pool::drain(rt, alloc, &hub, &gate, 4, 256);
+    Ok(drained.is_ok() && !gate.is_late.load(Ordering::SeqCst))
+}
+
+#[test]
+fn a_pool_of_four_runs_four_turns_at_once(rt: HostRuntime) -> Result<(), Fail> {
+    assert!(rt; four_overlap(&rt, rt.alloc())?);
+    Ok(())
+}
+
+/// Looks at how many answers wait when a turn is said to be back.
+#[derive(Drop)]
+struct Looks<'a, R: Wait> {
+    rt: &'a R,
+    hub: &'a Hub,
+    /// Counts the answers that waited when the last turn was said to be back.
+    waiting: AtomicU64,
+}
+
+impl<'a, R: Wait> Gate for Looks<'a, R> {
+    fn before(&self, _lease: u64) {}
+
+    fn after(&self, _lease: u64) {
+        let count = self.hub.waiting(self.rt, 0).unwrap_or(0);
+        self.waiting.store(count as u64, Ordering::SeqCst);
+    }
+}
+
+// Returns how many answers waited when the gate heard that the last turn was back.
+fn waiting_at_the_last<R: Threads + Wait + Sync>(rt: &R, alloc: Global) -> Result<u64, Fault> {
+    let (hub, _seat) = ready(rt, alloc, 7)?;
+    let gate = Looks {
+        rt,
+        hub: &hub,
+        waiting: AtomicU64::new(0),
+    };
+    Pool::drain(rt, alloc, &hub, &gate, 1, 256)?;
+    Ok(gate.waiting.load(Ordering::SeqCst))
+}
+
+#[test]
+fn a_gate_hears_of_a_turn_once_it_is_back(rt: HostRuntime) -> Result<(), Fail> {
+    assert_eq!(rt; waiting_at_the_last(&rt, rt.alloc())?, 1);
     Ok(())
 }
 

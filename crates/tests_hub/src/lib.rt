@@ -1,5 +1,5 @@
-//! Tests the hub, its workers and its server with worked rows: with real threads, and against an
-//! engine of one thread.
+//! Tests the hub and its workers with worked rows: with real threads, and against an engine of one
+//! thread.
 //!
 //! The tests have a crate of their own because a crate's tests are proved with all of the crate
 //! once more.
@@ -14,17 +14,15 @@ mod forgets;
 #[cfg(test)]
 mod gates;
 #[cfg(test)]
-mod program;
-#[cfg(test)]
 mod scarcity;
 #[cfg(test)]
 mod scripts;
 #[cfg(test)]
 mod seats;
 #[cfg(test)]
-mod server;
-#[cfg(test)]
 mod settles;
+#[cfg(test)]
+mod steps;
 #[cfg(test)]
 mod threads;
 #[cfg(test)]

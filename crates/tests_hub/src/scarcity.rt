@@ -7,13 +7,19 @@ use reference::Fault;
 use served::serve_connection;
 use std::alloc::Global;
 use std::sync::Wait;
+use std::sync::atomic::{AtomicBool, Ordering};
 use std::test::Fail;
+use std::thread;
 use std::thread::Threads;
+use std::time::{Clock, Duration};
 use wire::{MemorySink, MemorySource};
-use workers::{NoGate, Pool};
+use workers::{Gate, NoGate, Pool};
 
 /// Limits how many turns may be out.
 const TURNS: u64 = 64;
+
+/// Limits how often a pool is tried, each time with twice the wait.
+const TRIES: u32 = 8;
 
 // Makes a hub with one more query ready than turns may be out, each with one row.
 fn many_ready<R: Wait>(rt: &R, alloc: Global) -> Result<(Hub, Seat), Fault> {
@@ -28,10 +34,10 @@ fn many_ready<R: Wait>(rt: &R, alloc: Global) -> Result<(Hub, Seat), Fault> {
     Ok((hub, seat))
 }
 
-// Takes as many turns as may be out, and returns how many there were.
-fn hold_all<R: Wait>(rt: &R, hub: &Hub) -> Result<u64, Fault> {
+// Takes at most so many turns, and returns how many there were.
+fn hold<R: Wait>(rt: &R, hub: &Hub, turns: u64) -> Result<u64, Fault> {
     let mut held: u64 = 0;
-    for _ in 0..TURNS {
+    for _ in 0..turns {
         if let Leased::Turn(_) = hub.lease(rt, 256)? {
             held = held.saturating_add(1);
         }
@@ -116,7 +122,7 @@ struct Drained {
 // Drains while all turns are out, then after one is abandoned, and then after all are.
 fn drain_all<R: Threads + Wait + Sync>(rt: &R, alloc: Global) -> Result<Drained, Fault> {
     let (hub, mut seat) = many_ready(rt, alloc)?;
-    let held = hold_all(rt, &hub)?;
+    let held = hold(rt, &hub, TURNS)?;
     let are_refused = are_refused(rt, alloc, &hub, &mut seat) && answered_queries(rt, &hub) == 0;
     let is_done = abandon_some(rt, &hub, 0, 1) == 1
         && is_drain_answered(rt, alloc, &hub, &mut seat, b"{\"ok\":true}\n".as_slice());
@@ -148,5 +154,65 @@ fn a_drain_is_refused_while_all_turns_are_out(rt: HostRuntime) -> Result<(), Fai
         answered_at_last: 65,
     };
     assert_eq!(rt; drain_all(&rt, rt.alloc())?, expected);
+    Ok(())
+}
+
+/// Holds the first turn back for a while. Then it gives up all turns but that one.
+#[derive(Drop)]
+struct Slow<'a, R: Wait + Clock> {
+    rt: &'a R,
+    hub: &'a Hub,
+    /// Says for how many milliseconds.
+    millis: u64,
+    /// Says that a turn was held back.
+    has_held: AtomicBool,
+}
+
+impl<'a, R: Wait + Clock> Gate for Slow<'a, R> {
+    fn before(&self, _lease: u64) {
+        if self.has_held.load(Ordering::SeqCst) {
+            return;
+        }
+        self.has_held.store(true, Ordering::SeqCst);
+        thread::sleep(self.rt, Duration::from_millis(self.millis));
+        let _ = abandon_some(self.rt, self.hub, 0, TURNS.saturating_sub(1));
+    }
+
+    fn after(&self, _lease: u64) {}
+}
+
+// Lets a pool of two find room for one turn, which is held back so long that the other thread finds
+// none. As a rule that is the one that the pool started. Returns whether the pool says so.
+fn is_other_told<R: Threads + Wait + Clock + Sync>(
+    rt: &R,
+    alloc: Global,
+    millis: u64,
+) -> Result<bool, Fault> {
+    let (hub, _seat) = many_ready(rt, alloc)?;
+    hold(rt, &hub, TURNS.saturating_sub(1))?;
+    let gate = Slow {
+        rt,
+        hub: &hub,
+        millis,
+        has_held: AtomicBool::new(false),
+    };
+    Ok(Pool::drain(rt, alloc, &hub, &gate, 2, 256) == Err(Fault::TooManyLeases))
+}
+
+// Tries so with longer and longer waits, since a thread may start late.
+fn is_told_at_last<R: Threads + Wait + Clock + Sync>(rt: &R, alloc: Global) -> Result<bool, Fault> {
+    let mut millis: u64 = 100;
+    for _ in 0..TRIES {
+        if is_other_told(rt, alloc, millis)? {
+            return Ok(true);
+        }
+        millis = millis.saturating_mul(2);
+    }
+    Ok(false)
+}
+
+#[test]
+fn a_pool_says_what_its_other_thread_was_short_of(rt: HostRuntime) -> Result<(), Fail> {
+    assert!(rt; is_told_at_last(&rt, rt.alloc())?);
     Ok(())
 }

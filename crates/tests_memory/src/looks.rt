@@ -4,7 +4,7 @@ use crate::stop::Stop;
 use envelope::Slope;
 use leases::Engine;
 use plan::Kind;
-use reference::{Answering, Fault};
+use reference::{Answering, Fault, Status};
 use std::alloc::{AllocError, Global};
 
 /// Returns the numerator and the denominator of each slope.
@@ -18,26 +18,45 @@ fn slopes_in(alloc: Global, slopes: &[(Kind, Slope)]) -> Result<Vec<u64>, AllocE
     Ok(numbers)
 }
 
-/// Holds what a query shows: how much waits for a take, its slopes, and how much is in each of its
-/// queues.
+/// Returns up to which instant the answers of the query at this place of a status are complete.
+fn upto_of(status: &Status, place: usize) -> Option<i64> {
+    match status.queries.get(place) {
+        Some(query) => Some(query.upto),
+        None => None,
+    }
+}
+
+/// Holds what a query shows: how much waits for a take, and up to which instant its answers are
+/// complete. It also holds its slopes, and how much is in each of its queues.
 #[derive(Drop)]
 pub(crate) struct Shown {
     waiting: Option<usize>,
+    upto: Option<i64>,
     slopes: Vec<u64>,
     queues: Vec<u128>,
 }
 
 impl Shown {
-    /// Returns what an engine shows of a query, which may have been dropped.
-    fn of(alloc: Global, engine: &Engine, query: u64) -> Result<Shown, Fault> {
+    /// Returns what an engine shows of a query, which may have been dropped. The first `told` of
+    /// `status` belong to the undropped queries before it.
+    fn of(
+        alloc: Global,
+        engine: &Engine,
+        query: u64,
+        status: &Status,
+        told: usize,
+    ) -> Result<Shown, Fault> {
         let (mut slopes, mut queues) = (Vec::new(alloc), Vec::new(alloc));
+        let mut upto = None;
         let waiting = engine.waiting(query).ok();
         if waiting.is_some() {
+            upto = upto_of(status, told);
             slopes = slopes_in(alloc, engine.slopes(query)?.as_slice())?;
             queues = engine.pending(query)?;
         }
         Ok(Shown {
             waiting,
+            upto,
             slopes,
             queues,
         })
@@ -46,6 +65,7 @@ impl Shown {
     /// Returns whether the query shows the same except its queues, and has as many of these.
     fn is_like(&self, other: &Shown) -> bool {
         self.waiting == other.waiting
+            && self.upto == other.upto
             && self.slopes.as_slice() == other.slopes.as_slice()
             && self.queues.len() == other.queues.len()
     }
@@ -55,15 +75,21 @@ impl Shown {
         self.is_like(other) && self.queues.as_slice() == other.queues.as_slice()
     }
 
-    /// Returns whether nothing that waited is gone afterwards, and the query has the same slopes
-    /// and as many queues.
+    /// Returns whether nothing that waited is gone afterwards and the answers reach as far at
+    /// least. The query has to have the same slopes and as many queues.
     fn goes_on_to(&self, after: &Shown) -> bool {
         let is_kept = match (self.waiting, after.waiting) {
             (Some(before), Some(now)) => before <= now,
             (None, None) => true,
             _ => false,
         };
+        let reaches = match (self.upto, after.upto) {
+            (Some(before), Some(now)) => before <= now,
+            (None, None) => true,
+            _ => false,
+        };
         is_kept
+            && reaches
             && self.slopes.as_slice() == after.slopes.as_slice()
             && self.queues.len() == after.queues.len()
     }
@@ -89,9 +115,14 @@ pub(crate) struct Look {
 impl Look {
     /// Looks at an engine at which this many queries were registered.
     fn once(alloc: Global, engine: &Engine, registered: u64) -> Result<Look, Fault> {
+        let status = engine.status()?;
         let mut queries = Vec::new(alloc);
+        let mut told = 0usize;
         for query in 0..registered {
-            let shown = Shown::of(alloc, engine, query)?;
+            let shown = Shown::of(alloc, engine, query, &status, told)?;
+            if shown.upto.is_some() {
+                told = told.saturating_add(1);
+            }
             if queries.push(shown).is_err() {
                 return Err(Fault::OutOfMemory);
             }

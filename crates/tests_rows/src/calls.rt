@@ -1,8 +1,9 @@
 //! Answers requests of clients, over any engine.
 
 use crate::turns::add_row;
-use reference::{Answering, Fault, Kind, Slope};
+use reference::{AnswerRows, Answering, Fault, Kind, Slope, Status};
 use std::alloc::{AllocError, Global};
+use std::ops::Deref;
 use values::Row;
 use wire::{Reply, Request, WireFault, answer, read_request};
 
@@ -12,6 +13,37 @@ fn shown_answers(alloc: Global, answers: &[(i64, Row)]) -> Result<String, AllocE
     for (at, row) in answers {
         write!(text, "; {at}: ")?;
         add_row(&mut text, row.as_slice())?;
+    }
+    Ok(text)
+}
+
+/// Shows answers of a flat list, each with its instant.
+fn shown_flat(alloc: Global, answers: &AnswerRows) -> Result<String, AllocError> {
+    let mut text = format!(in alloc; "{} rows", answers.len())?;
+    for number in 0..answers.len() {
+        if let Some((at, row)) = answers.get(number) {
+            write!(text, "; {at}: ")?;
+            add_row(&mut text, row)?;
+        }
+    }
+    Ok(text)
+}
+
+/// Shows each query: its base, what was taken, what waits and up to where it is complete. Shows the
+/// closed instant and the rows of each stream.
+fn shown_status(alloc: Global, status: &Status) -> Result<String, AllocError> {
+    let mut text = format!(in alloc; "{} queries", status.queries.len())?;
+    for query in &status.queries {
+        write!(text, "; {} base {}", query.name, query.base)?;
+        write!(text, " taken {} waiting {}", query.taken, query.waiting)?;
+        write!(text, " upto {}", query.upto)?;
+        if query.is_broken {
+            write!(text, " broken")?;
+        }
+    }
+    write!(text, "; {} streams", status.streams.len())?;
+    for stream in &status.streams {
+        write!(text, "; closed {} rows {}", stream.closed, stream.rows)?;
     }
     Ok(text)
 }
@@ -58,6 +90,10 @@ fn asked<E: Answering>(
             let operators = engine.slopes(number)?;
             Ok(shown_operators(alloc, &operators)?)
         }
+        Request::Peek { limit, .. } => {
+            let answers = engine.peek(number, *limit)?;
+            Ok(shown_flat(alloc, &answers)?)
+        }
         _ => {
             engine.drop_query(number)?;
             done(alloc)
@@ -97,9 +133,14 @@ fn served<E: Answering>(alloc: Global, engine: &mut E, request: &Request) -> Res
             engine.forget()?;
             done(alloc)
         }
-        Request::Take { query, .. } | Request::Drop { query } | Request::Plan { query } => {
-            asked(alloc, engine, query.as_str(), request)
+        Request::Status => {
+            let status = engine.status()?;
+            Ok(shown_status(alloc, &status)?)
         }
+        Request::Take { query, .. }
+        | Request::Peek { query, .. }
+        | Request::Drop { query }
+        | Request::Plan { query } => asked(alloc, engine, query.as_str(), request),
     }
 }
 
@@ -130,7 +171,9 @@ pub(crate) fn asked_of_script<E: Answering>(
     };
     match answer(engine, &request, ROWS) {
         Reply::Done => done(alloc),
-        Reply::Rows(rows) => Ok(shown_answers(alloc, &rows)?),
+        Reply::Rows(rows) => Ok(shown_flat(alloc, &rows)?),
+        Reply::Shared(rows) => Ok(shown_flat(alloc, rows.deref())?),
+        Reply::Status(status) => Ok(shown_status(alloc, &status)?),
         Reply::Operators(operators) => Ok(shown_operators(alloc, &operators)?),
         Reply::Refused(fault) => Err(fault),
         Reply::Unread(_) => Ok(String::from_str(alloc, "no request")?),

@@ -200,6 +200,11 @@ fn delta(alloc: Global) -> Result<Delta, AllocError> {
 fn rows_in(alloc: Global, list: &RowList) -> Result<Vec<Row>, AllocError> {
     let mut dated = DatedRows::new(alloc);
     list.push_to(&mut dated, 0)?;
+    undated(alloc, dated)
+}
+
+/// Returns the rows without their instants.
+fn undated(alloc: Global, mut dated: DatedRows) -> Result<Vec<Row>, AllocError> {
     let mut rows = Vec::new(alloc);
     for _ in 0..dated.len() {
         if let Some((_, row)) = dated.pop_front() {
@@ -216,13 +221,19 @@ fn list_is(alloc: Global, list: &RowList, numbers: &[i64]) -> Result<bool, Alloc
 }
 
 fn entered_are(alloc: Global, delta: &Delta, numbers: &[i64]) -> Result<bool, AllocError> {
-    let rows = delta.entered(alloc)?;
-    list_is(alloc, &rows, numbers)
+    let mut copy = delta.copy(alloc)?;
+    let mut dated = DatedRows::new(alloc);
+    copy.push_entered(0, &mut dated)?;
+    let rows = undated(alloc, dated)?;
+    Ok(are(&rows, numbers))
 }
 
 fn left_are(alloc: Global, delta: &Delta, numbers: &[i64]) -> Result<bool, AllocError> {
-    let rows = delta.left(alloc)?;
-    list_is(alloc, &rows, numbers)
+    let mut copy = delta.copy(alloc)?;
+    let mut dated = DatedRows::new(alloc);
+    copy.push_left(0, &mut dated)?;
+    let rows = undated(alloc, dated)?;
+    Ok(are(&rows, numbers))
 }
 
 /// Returns whether a delta has only these rows.
@@ -258,6 +269,23 @@ fn eight_left(alloc: Global) -> Result<bool, AllocError> {
 #[test]
 fn what_leaves_is_kept(rt: HostRuntime) -> Result<(), Fail> {
     assert!(rt; eight_left(rt.alloc())?);
+    Ok(())
+}
+
+/// Returns whether the delta in which 5 leaves, and 6 and 5 come, is the same as that of these
+/// rows. The first leaves, and the others come.
+fn is_same_delta(alloc: Global, numbers: (i64, i64, i64)) -> Result<bool, AllocError> {
+    let one = delta(alloc)?;
+    let other = delta_from(alloc, false, numbers)?;
+    Ok(one.is_same(&other))
+}
+
+#[test]
+fn deltas_are_the_same_in_any_order(rt: HostRuntime) -> Result<(), Fail> {
+    assert!(rt; is_same_delta(rt.alloc(), (5, 6, 5))?);
+    assert!(rt; is_same_delta(rt.alloc(), (5, 5, 6))?);
+    assert!(rt; is_same_delta(rt.alloc(), (7, 6, 7))?);
+    assert!(rt; !is_same_delta(rt.alloc(), (5, 6, 6))?);
     Ok(())
 }
 

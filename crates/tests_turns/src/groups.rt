@@ -1,11 +1,12 @@
 //! Groups and their excerpts, compared by value.
+ghost use Rattle.group.specs.Turns.{RoomFor};
 
+use crate::add_line;
 use crate::turns::{node, two};
 use column::Side;
 use group::{Group, GroupBy, work};
 use op_queue::Item as Queued;
 use std::alloc::{AllocError, Global};
-use std::test::Fail;
 use turn::{Kind, Near};
 use values::{Column, ListItem};
 
@@ -21,14 +22,21 @@ fn counted(alloc: Global) -> Result<GroupBy, AllocError> {
     listed(alloc, 0, ListItem::CountAll)
 }
 
+/// Lets groups take an item.
+fn take(alloc: Global, group: &mut Group, shape: &GroupBy, item: &Queued) -> Result<(), AllocError>
+    requires { RoomFor group.old item.now }
+{
+    let near = group.near(alloc, item)?;
+    let (_, change) = work(alloc, shape, item, &near)?;
+    group.apply(item, &change)
+}
+
 /// Makes the groups that have taken the rows of 7 and of `number`.
 fn filled(alloc: Global, number: i64) -> Result<Group, AllocError> {
     let shape = counted(alloc)?;
     let mut group = Group::new(alloc, counted(alloc)?)?;
     let rows = Queued::Rows(4, two(alloc, 7, number)?);
-    let near = group.near(alloc, &rows)?;
-    let (_, change) = work(alloc, &shape, &rows, &near)?;
-    group.apply(&rows, &change)?;
+    take(alloc, &mut group, &shape, &rows)?;
     Ok(group)
 }
 
@@ -46,12 +54,26 @@ fn is_same_group(alloc: Global, column: usize, item: ListItem) -> Result<bool, A
     Ok(counted.is_same(&other))
 }
 
-#[test]
-fn groups_are_told_apart_by_their_columns_and_lists(rt: HostRuntime) -> Result<(), Fail> {
-    assert!(rt; is_same_group(rt.alloc(), 0, ListItem::CountAll)?);
-    assert!(rt; !is_same_group(rt.alloc(), 1, ListItem::CountAll)?);
-    assert!(rt; !is_same_group(rt.alloc(), 0, ListItem::Key(0))?);
-    Ok(())
+fn add_shapes(alloc: Global, text: &mut String) -> Result<(), AllocError> {
+    let name = "groups are told apart by their columns and lists";
+    add_line(
+        text,
+        name,
+        "by 0 and by 0",
+        is_same_group(alloc, 0, ListItem::CountAll)?,
+    )?;
+    add_line(
+        text,
+        name,
+        "by 0 and by 1",
+        is_same_group(alloc, 1, ListItem::CountAll)?,
+    )?;
+    add_line(
+        text,
+        name,
+        "count and key",
+        is_same_group(alloc, 0, ListItem::Key(0))?,
+    )
 }
 
 /// Returns whether a tick needs the same after the row 7 twice as after 7 and `number`.
@@ -61,9 +83,14 @@ fn needs_the_same(alloc: Global, number: i64) -> Result<bool, AllocError> {
     Ok(sevens.is_same(&other))
 }
 
-#[test]
-fn excerpts_of_groups_are_told_apart_by_value(rt: HostRuntime) -> Result<(), Fail> {
-    assert!(rt; needs_the_same(rt.alloc(), 7)?);
-    assert!(rt; !needs_the_same(rt.alloc(), 8)?);
-    Ok(())
+fn add_excerpts(alloc: Global, text: &mut String) -> Result<(), AllocError> {
+    let name = "excerpts of groups are told apart by value";
+    add_line(text, name, "7 7 and 7 7", needs_the_same(alloc, 7)?)?;
+    add_line(text, name, "7 7 and 7 8", needs_the_same(alloc, 8)?)
+}
+
+/// Adds all lines of groups.
+pub(crate) fn add_all(alloc: Global, text: &mut String) -> Result<(), AllocError> {
+    add_shapes(alloc, text)?;
+    add_excerpts(alloc, text)
 }

@@ -3,14 +3,14 @@ ghost use Rattle.std.specs.Prelude.{◌≡◌, ◌≤◌, IfOk, length};
 ghost use Rattle.column.specs.Rows.{width};
 ghost use Rattle.turn.specs.Turns.{Fits};
 
+use crate::add_line;
 use column::{Batch, Side, SignedRow};
 use op_queue::Item;
-use row_bags::RowList;
 use std::alloc::{AllocError, Global};
 use std::sync::Arc;
-use std::test::Fail;
-use turn::{ColumnList, Done, Kind, Near, Node, SharedItem, SharedNear, Turn, same_item};
-use values::{Row, Value};
+use to_stream::ToStream;
+use turn::{ColumnList, Done, Kind, Near, Node, Parts, SharedItem, SharedNear, Turn, same_item};
+use values::{Row, StreamOperator, Value};
 use windows::{RowTable, SlideNear};
 
 fn row(number: i64) -> Row
@@ -86,31 +86,24 @@ fn listed(alloc: Global) -> Result<Done, AllocError> {
     run(alloc, node, Item::Rows(4, batch), Near::Nothing)
 }
 
-/// Returns whether the operator is Project with these columns.
-fn lists(kind: &Kind, wanted: &[usize]) -> bool {
-    match kind {
-        Kind::Project(columns) => columns.columns() == wanted,
-        _ => false,
+/// Adds the lease, the query and the operator of a turn's parts, and the columns that it lists.
+fn add_parts(text: &mut String, parts: &Parts) -> Result<(), AllocError> {
+    let (query, operator) = (parts.node.query, parts.node.operator);
+    write!(text, "{} of {query}.{operator}", parts.lease)?;
+    if let Kind::Project(columns) = &*parts.node.kind {
+        for column in columns.columns() {
+            write!(text, " {column}")?;
+        }
     }
-}
-
-/// Returns the lease, the query and the operator from the parts of the turn, and whether it lists
-/// its column twice.
-fn parts_of_listed(alloc: Global) -> Result<(u64, u64, usize, bool), AllocError> {
-    let parts = listed(alloc)?.into_parts();
-    let lists_twice = lists(&parts.node.kind, &[0, 0]);
-    Ok((
-        parts.lease,
-        parts.node.query,
-        parts.node.operator,
-        lists_twice,
-    ))
-}
-
-#[test]
-fn a_turn_is_run_in_another_thread_and_handed_out(rt: HostRuntime) -> Result<(), Fail> {
-    assert_eq!(rt; parts_of_listed(rt.alloc())?, (9, 2, 3, true));
     Ok(())
+}
+
+/// Adds what a turn was that is run in another thread and handed out.
+fn add_handed_out(alloc: Global, text: &mut String) -> Result<(), AllocError> {
+    let parts = listed(alloc)?.into_parts();
+    text.push_str("a turn is run in another thread and handed out: ")?;
+    add_parts(text, &parts)?;
+    text.push_str("\n")
 }
 
 /// Returns whether the rows 7 and 8 are the same item as the rows 7 and `number`.
@@ -120,11 +113,10 @@ fn is_same_item(alloc: Global, number: i64) -> Result<bool, AllocError> {
     Ok(same_item(&rows, &other))
 }
 
-#[test]
-fn items_are_told_apart_by_value(rt: HostRuntime) -> Result<(), Fail> {
-    assert!(rt; is_same_item(rt.alloc(), 8)?);
-    assert!(rt; !is_same_item(rt.alloc(), 9)?);
-    Ok(())
+fn add_items(alloc: Global, text: &mut String) -> Result<(), AllocError> {
+    let name = "items are told apart by value";
+    add_line(text, name, "7 8 and 7 8", is_same_item(alloc, 8)?)?;
+    add_line(text, name, "7 8 and 7 9", is_same_item(alloc, 9)?)
 }
 
 /// Returns whether the node of a root is the same as one of this kind.
@@ -134,12 +126,26 @@ fn is_same_node(alloc: Global, kind: Kind) -> Result<bool, AllocError> {
     Ok(root.is_same(&other))
 }
 
-#[test]
-fn nodes_are_told_apart_by_value(rt: HostRuntime) -> Result<(), Fail> {
-    assert!(rt; is_same_node(rt.alloc(), Kind::ToStream)?);
-    assert!(rt; !is_same_node(rt.alloc(), Kind::RangeWindow)?);
-    assert!(rt; !is_same_node(rt.alloc(), Kind::SlideWindow)?);
-    Ok(())
+fn add_nodes(alloc: Global, text: &mut String) -> Result<(), AllocError> {
+    let name = "nodes are told apart by value";
+    add_line(
+        text,
+        name,
+        "root and root",
+        is_same_node(alloc, Kind::ToStream)?,
+    )?;
+    add_line(
+        text,
+        name,
+        "root and range",
+        is_same_node(alloc, Kind::RangeWindow)?,
+    )?;
+    add_line(
+        text,
+        name,
+        "root and slide",
+        is_same_node(alloc, Kind::SlideWindow)?,
+    )
 }
 
 /// Makes the excerpt of a window that moves at multiples, where one row passes without being shown.
@@ -161,24 +167,35 @@ fn is_same_passing(alloc: Global, number: i64) -> Result<bool, AllocError> {
     Ok(five.is_same(&other))
 }
 
-fn sorted(alloc: Global, number: i64) -> Result<Near, AllocError> {
-    let mut rows = RowList::new(alloc);
-    rows.push(&[Value::clamped(number as i128)])?;
-    Ok(Near::Sorted(rows))
+/// Makes the excerpt of a root to which one row came.
+fn entered(alloc: Global, number: i64) -> Result<Near, AllocError> {
+    let batch = Batch::from_rows(alloc, &[entering(number)])?;
+    let _few = batch.len(); // for the proof
+    let mut root = ToStream::new(alloc, StreamOperator::Istream);
+    root.apply(&Item::Rows(1, batch))?;
+    let lists = root.near(alloc, &Item::Tick(1))?;
+    Ok(Near::Lists(lists))
 }
 
 /// Returns whether the excerpt of the row 5 is the same as that of another row.
 fn is_same_excerpt(alloc: Global, number: i64) -> Result<bool, AllocError> {
-    let five = sorted(alloc, 5)?;
-    let other = sorted(alloc, number)?;
+    let five = entered(alloc, 5)?;
+    let other = entered(alloc, number)?;
     Ok(five.is_same(&other))
 }
 
-#[test]
-fn excerpts_are_told_apart_by_value(rt: HostRuntime) -> Result<(), Fail> {
-    assert!(rt; is_same_excerpt(rt.alloc(), 5)?);
-    assert!(rt; !is_same_excerpt(rt.alloc(), 6)?);
-    assert!(rt; is_same_passing(rt.alloc(), 5)?);
-    assert!(rt; !is_same_passing(rt.alloc(), 6)?);
-    Ok(())
+fn add_excerpts(alloc: Global, text: &mut String) -> Result<(), AllocError> {
+    let name = "excerpts are told apart by value";
+    add_line(text, name, "entered 5 and 5", is_same_excerpt(alloc, 5)?)?;
+    add_line(text, name, "entered 5 and 6", is_same_excerpt(alloc, 6)?)?;
+    add_line(text, name, "passing 5 and 5", is_same_passing(alloc, 5)?)?;
+    add_line(text, name, "passing 5 and 6", is_same_passing(alloc, 6)?)
+}
+
+/// Adds all lines of turns.
+pub(crate) fn add_all(alloc: Global, text: &mut String) -> Result<(), AllocError> {
+    add_handed_out(alloc, text)?;
+    add_items(alloc, text)?;
+    add_nodes(alloc, text)?;
+    add_excerpts(alloc, text)
 }

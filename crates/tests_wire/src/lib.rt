@@ -12,6 +12,8 @@ mod interruptions;
 #[cfg(test)]
 mod lines;
 #[cfg(test)]
+mod looks;
+#[cfg(test)]
 mod replies;
 #[cfg(test)]
 mod runs;

@@ -2,8 +2,9 @@
 ghost use Rattle.std.specs.Prelude.{◌<◌};
 
 use arrayvec::ArrayVec;
-use reference::{Fault, QueryFault};
+use reference::{AnswerRows, Fault, QueryFault};
 use std::alloc::{AllocError, Global};
+use std::sync::Arc;
 use std::test::Fail;
 use values::{Row, Value};
 use wire::{
@@ -29,6 +30,8 @@ fn kinds<S: Source>(alloc: Global, source: &mut S) -> Result<String, AllocError>
             Ok(Request::Drop { .. }) => "x",
             Ok(Request::Forget) => "f",
             Ok(Request::Plan { .. }) => "p",
+            Ok(Request::Peek { .. }) => "k",
+            Ok(Request::Status) => "u",
             Err(WireFault::NotJson) => "1",
             Err(WireFault::BadRequest) => "2",
             Err(WireFault::LineTooLong) => "3",
@@ -57,12 +60,24 @@ const LINES: &[u8] = b"{\"op\":\"stream\",\"name\":\"S\",\"columns\":[\"a\"],\"f
 {\"op\":\"forget\"}
 {\"query\":null,\"op\":\"forget\",\"rows\":[[]]}
 {\"op\":\"Forget\"}
+{\"op\":\"peek\",\"query\":\"q\",\"limit\":5}
+{\"limit\":5,\"op\":\"peek\",\"query\":\"q\",\"rows\":[]}
+{\"op\":\"peek\",\"query\":\"q\"}
+{\"op\":\"peek\",\"query\":\"q\",\"limit\":\"5\"}
+{\"op\":\"peek\",\"query\":\"q\",\"limit\":null}
+{\"op\":\"peek\",\"limit\":5}
+{\"op\":\"peek\",\"query\":5,\"limit\":5}
+{\"op\":\"status\"}
+ {\"query\":5,\"op\":\"status\",\"limit\":\"x\"}
+{\"op\":\"status\"}{}
+{\"op\":\"Status\"}
+{\"ok\":\"status\"}
 []
 {\"op\":\"\xff\"}
 \x0b
 {\"op\":\"drain\"";
 
-const KINDS: &str = "s2qa22h22dt2xpff22111";
+const KINDS: &str = "s2qa22h22dt2xpff2kk22222uu1222111";
 
 // Gives one byte at a time, and fails at a read.
 #[derive(Drop)]
@@ -223,14 +238,23 @@ fn lists_nest_127_deep(rt: HostRuntime) -> Result<(), Fail> {
 }
 
 fn rows_of(alloc: Global, count: u16) -> Result<Reply, AllocError> {
-    let mut rows = Vec::new(alloc);
+    Ok(Reply::Rows(answers_of(alloc, count)?))
+}
+
+fn answers_of(alloc: Global, count: u16) -> Result<AnswerRows, AllocError> {
+    let mut rows = AnswerRows::new(alloc);
     for at in 0..count {
         let mut row: Row = ArrayVec::new();
         row.try_push(Value::clamped(-(at as i128))).is_ok();
         row.try_push(Value::null()).is_ok();
-        rows.push((at as i64, row))?;
+        rows.push(at as i64, row.as_slice())?;
     }
-    Ok(Reply::Rows(rows))
+    Ok(rows)
+}
+
+// Makes the same reply of answers that someone else keeps too.
+fn shared_rows_of(alloc: Global, count: u16) -> Result<Reply, AllocError> {
+    Ok(Reply::Shared(Arc::new(alloc, answers_of(alloc, count)?)?))
 }
 
 // Returns whether the reply is written as this line.
@@ -240,8 +264,8 @@ fn is_line(alloc: Global, reply: &Reply, wanted: &str) -> bool {
 }
 
 fn rows_are_line(alloc: Global, count: u16, wanted: &str) -> Result<bool, AllocError> {
-    let reply = rows_of(alloc, count)?;
-    Ok(is_line(alloc, &reply, wanted))
+    let (own, shared) = (rows_of(alloc, count)?, shared_rows_of(alloc, count)?);
+    Ok(is_line(alloc, &own, wanted) && is_line(alloc, &shared, wanted))
 }
 
 fn refusal_is_line(alloc: Global, fault: Fault, wanted: &str) -> bool {
@@ -295,9 +319,9 @@ fn writes_of(alloc: Global, count: u16) -> Result<Option<u64>, AllocError> {
 }
 
 #[test]
-fn a_line_of_4096_bytes_is_one_write(rt: HostRuntime) -> Result<(), Fail> {
-    assert_eq!(rt; writes_of(rt.alloc(), 250)?, Some(1));
-    assert_eq!(rt; writes_of(rt.alloc(), 500)?, Some(2));
+fn a_line_of_16384_bytes_is_one_write(rt: HostRuntime) -> Result<(), Fail> {
+    assert_eq!(rt; writes_of(rt.alloc(), 900)?, Some(1));
+    assert_eq!(rt; writes_of(rt.alloc(), 1_800)?, Some(2));
     Ok(())
 }
 

@@ -194,10 +194,10 @@ fn heartbeats(alloc: Global, until: u64) -> Result<String, AllocError> {
     Ok(script)
 }
 
-// Returns whether a script that is read at once ends where a first write has to come. In 4,096
-// bytes, 341 replies of 12 bytes may be held; the reply to the heartbeat at 340 is one more.
+// Returns whether a script that is read at once ends where a first write has to come. In 16,384
+// bytes, 1,365 replies of 12 bytes may be held; the reply to the heartbeat at 1,364 is one more.
 fn ends_at_a_full_page(alloc: Global) -> Result<bool, AllocError> {
-    let script = heartbeats(alloc, 400)?;
+    let script = heartbeats(alloc, 1_500)?;
     let Ok(mut engine) = Plain::new(alloc) else {
         return Ok(false);
     };
@@ -208,8 +208,8 @@ fn ends_at_a_full_page(alloc: Global) -> Result<bool, AllocError> {
     Ok(
         matches!(ended, Err(ScriptFault::Write))
             && engine.query_named("q").is_none()
-            && engine.heartbeat(0, 340) == Err(Fault::Backward)
-            && engine.heartbeat(0, 341).is_ok(),
+            && engine.heartbeat(0, 1_364) == Err(Fault::Backward)
+            && engine.heartbeat(0, 1_365).is_ok(),
     )
 }
 

@@ -89,6 +89,9 @@ fn workers_are_1_to_64_and_the_plain_engine_has_none(rt: HostRuntime) {
     let both = ["cqlrun", "--plain", "--workers=4"];
     let refused = run_options(rt.alloc(), both.as_slice());
     assert!(rt; matches!(refused, Err(WordsFault::PlainWithWorkers)));
+    let alone = ["cqlrun", "--forget=1"];
+    let refused = run_options(rt.alloc(), alone.as_slice());
+    assert!(rt; matches!(refused, Err(WordsFault::ForgetWithoutWorkers)));
 }
 
 #[test]
@@ -110,7 +113,8 @@ fn a_server_has_a_port_workers_and_clients(rt: HostRuntime) {
                 workers: 1,
                 clients: 64,
                 serve: Some(7),
-                idle: None
+                idle: None,
+                forget: 8_388_608
             })
         )
     );
@@ -202,6 +206,30 @@ fn is_helped<R: Threads + Wait + Sync>(rt: &R, alloc: Global) -> bool {
 #[test]
 fn help_is_no_error(rt: HostRuntime) {
     assert!(rt; is_helped(&rt, rt.alloc()));
+}
+
+// Returns whether the version is written, and nothing of errors.
+fn is_version_told<R: Threads + Wait + Sync>(rt: &R, alloc: Global, word: &str) -> bool {
+    let words = ["cqlrun", word];
+    let mut source = MemorySource::new(FIRST.as_bytes());
+    let mut sink = MemorySink::new(alloc);
+    let mut errors = MemorySink::new(alloc);
+    let ended = run(
+        rt,
+        alloc,
+        words.as_slice(),
+        &mut source,
+        &mut sink,
+        &mut errors,
+    );
+    ended == 0 && sink.bytes.as_slice() == b"cqlrun 0.9.0\n".as_slice() && errors.bytes.is_empty()
+}
+
+#[test]
+fn the_version_is_printed(rt: HostRuntime) {
+    for word in ["--version", "-V"] {
+        assert!(rt; is_version_told(&rt, rt.alloc(), word), "{word}");
+    }
 }
 
 // Is memory that gives or takes up to seven bytes at a time, and fails at a call.

@@ -26,7 +26,16 @@ fn are_same(one: &Request, other: &Request) -> bool {
                 limit: most,
             },
         ) => query.as_str() == name.as_str() && limit == most,
-        (Request::Drain, Request::Drain) | (Request::Forget, Request::Forget) => true,
+        (
+            Request::Peek { query, limit },
+            Request::Peek {
+                query: name,
+                limit: most,
+            },
+        ) => query.as_str() == name.as_str() && limit == most,
+        (Request::Status, Request::Status)
+        | (Request::Drain, Request::Drain)
+        | (Request::Forget, Request::Forget) => true,
         _ => false,
     }
 }
@@ -96,7 +105,7 @@ fn rows_are_read_as_json_reads_them(rt: HostRuntime) -> Result<(), Fail> {
     Ok(())
 }
 
-const LINES: [&str; 26] = [
+const LINES: [&str; 34] = [
     "{\"op\":\"append\",\"stream\":\"a_Z09\",\"rows\":[[1,2]]}",
     "{\"op\":\"append\",\"stream\":\"\",\"rows\":[[1,2]]}",
     "{\"op\":\"append\",\"stream\":\"a b\",\"rows\":[[1,2]]}",
@@ -117,6 +126,14 @@ const LINES: [&str; 26] = [
     "{\"op\":\"take\",\"query\":\"q\",\"limit\":4096}",
     "{\"op\":\"take\",\"query\":\"q\",\"limit\":-0}",
     "{\"op\":\"take\",\"query\":\"q\",\"limit\":\"4\"}",
+    "{\"op\":\"peek\",\"query\":\"q\",\"limit\":4096}",
+    "{\"op\":\"peek\",\"query\":\"q\",\"limit\":-0}",
+    "{\"op\":\"peek\",\"query\":\"q\",\"limit\":\"4\"}",
+    "{\"op\":\"peek\",\"query\":\"q\"}",
+    "{\"op\":\"peek\",\"query\":\"q\",\"limit\":4,\"limit\":5}",
+    "{\"op\":\"peek\",\"query\":\"q r\",\"limit\":4}",
+    "{\"op\":\"status\"}",
+    "{\"op\":\"status\",\"limit\":\"4\"}",
     "{\"op\":\"drain\"}",
     "{\"op\":\"drain\",\"rows\":1}",
     "{\"op\":\"draim\"}",
@@ -182,8 +199,15 @@ fn take_is(alloc: Global, line: &str, most: i64) -> bool {
     }
 }
 
+fn peek_is(alloc: Global, line: &str, most: i64) -> bool {
+    match read_request(alloc, line.as_bytes()) {
+        Ok(Request::Peek { query, limit }) => query.as_str() == "q" && limit == most,
+        _ => false,
+    }
+}
+
 #[test]
-fn heartbeats_and_takes_have_the_numbers_of_their_lines(rt: HostRuntime) {
+fn heartbeats_takes_and_peeks_have_the_numbers_of_their_lines(rt: HostRuntime) {
     let heartbeat = "{\"op\":\"heartbeat\",\"stream\":\"S\",\"at\":-70}";
     assert!(rt; heartbeat_is(rt.alloc(), heartbeat, -70));
     assert!(rt;
@@ -193,4 +217,8 @@ fn heartbeats_and_takes_have_the_numbers_of_their_lines(rt: HostRuntime) {
             4096
         )
     );
+    let peek = "{\"op\":\"peek\",\"query\":\"q\",\"limit\":-12}";
+    assert!(rt; peek_is(rt.alloc(), peek, -12));
+    let spaced = "{\"limit\":12, \"query\":\"q\", \"op\":\"peek\"}";
+    assert!(rt; peek_is(rt.alloc(), spaced, 12));
 }

@@ -22,7 +22,7 @@ use Rattle.to_stream.specs.Law.{whole_of, Stands, StepLaw}
 renewed_now : (s : State) (before now : List Row) → s.delta ≡ delta_between before now → s.whole ≡ in_order row_cmp before → renewed s.whole s.delta ≡ in_order row_cmp now
 renewed_now s before now n w = ap₂ renewed w n ∙ renewed-between before now
 
-shown_as : (o : StreamOperator) (s : State) (before now : List Row) → s.delta ≡ delta_between before now → s.whole ≡ whole_of o before → shown o s ≡ in_order row_cmp (streamed (operator_of o) before now)
+shown_as : (o : StreamOperator) (s : State) (before now : List Row) → s.delta ≡ delta_between before now → s.whole ≡ whole_of o before → shown o s.delta s.whole ≡ in_order row_cmp (streamed (operator_of o) before now)
 shown_as Istream s before now n w = ap (λ (n : PlainDelta). n.entered) n
 shown_as Dstream s before now n w = ap (λ (n : PlainDelta). n.left) n
 shown_as Rstream s before now n w = renewed_now s before now n w

@@ -1,11 +1,11 @@
 -- The turns of a root, on plain states.
-use Rattle.std.specs.Prelude.{ℕ, ◌+◌, ◌<◌, ◌^◌, Bool, Option, Some, List, [], map, length}
+use Rattle.std.specs.Prelude.{ℕ, ◌≡◌, ◌+◌, ◌<◌, ◌^◌, Bool, Option, Some, List, [], map, length}
 use Rattle.values.specs.Row.{Row}
 use Rattle.values.specs.declared.resolved.StreamOperator.{StreamOperator}
 use Rattle.values.specs.declared.resolved.StreamOperator.TheVariants.{Istream, Dstream, Rstream}
 use Rattle.op_queue.specs.declared.item.Item.{Item}
 use Rattle.op_queue.specs.declared.item.Item.TheVariants.{Rows, Tick}
-use Rattle.row_bags.specs.Deltas.{PlainDelta, deltas_after}
+use Rattle.row_bags.specs.Deltas.{PlainDelta, delta_of, deltas_after}
 use Rattle.row_bags.specs.Lists.{renewed}
 
 -- what entered and left since the last tick, and the instant of that tick, if one was taken; of
@@ -16,21 +16,28 @@ pub record State : Type 0 where
   pub whole : List Row
   pub last : Option ℕ
 
+-- what a turn needs of the state: what is asked, what entered and left, and of Rstream the relation
+-- of the last tick
+pub record Excerpt : Type 0 where
+  pub operator : StreamOperator
+  pub delta : PlainDelta
+  pub whole : List Row
+
 -- the rows that answer at a tick, in order
-abbrev pub shown : StreamOperator → State → List Row
-shown Istream s = s.delta.entered
-shown Dstream s = s.delta.left
-shown Rstream s = renewed s.whole s.delta
+abbrev pub shown : StreamOperator → PlainDelta → List Row → List Row
+shown Istream delta whole = delta.entered
+shown Dstream delta whole = delta.left
+shown Rstream delta whole = renewed whole delta
 
 -- the excerpt
-abbrev pub near : State → Item → List Row
-near s (Rows t b) = []
-near s (Tick t) = shown s.operator s
+abbrev pub near : State → Item → Excerpt
+near s (Rows t b) = record { operator = s.operator; delta = delta_of [] []; whole = [] }
+near s (Tick t) = record { operator = s.operator; delta = s.delta; whole = s.whole }
 
 -- the answers
-abbrev pub out : Item → List Row → List (ℕ × Row)
-out (Rows t b) rows = []
-out (Tick t) rows = map (λ r. (t, r)) rows
+abbrev pub out : Item → Excerpt → List (ℕ × Row)
+out (Rows t b) n = []
+out (Tick t) n = map (λ r. (t, r)) (shown n.operator n.delta n.whole)
 
 -- the state after signed rows
 abbrev pub taken : State → List (Bool × Row) → State
@@ -55,6 +62,13 @@ ticked s t = record {
   whole = kept s.operator s;
   last = Some t;
 }
+
+-- STILL: nothing has entered or left since the last tick, a tick answers
+-- with nothing, and it keeps the relation that was kept
+pub record IsStill (s : State) : Type 0 where
+  pub still : s.delta ≡ record { entered = []; left = [] }
+  pub silent : shown s.operator s.delta s.whole ≡ []
+  pub keeps : kept s.operator s ≡ s.whole
 
 -- the state after an item
 abbrev pub next : State → Item → State

@@ -5,16 +5,18 @@
 //! order, each with the instant. Istream answers with what the relation has beyond that of the
 //! instant before, Dstream with what it has lost of it. Rstream answers with the whole relation.
 //!
-//! `near` is what a turn needs of the state, `work` is what it emits, and `apply` is the change.
+//! `near` is what a turn needs of the state: copies of its lists. `work` sorts them and makes what
+//! the turn emits, and `apply` is the change.
 //!
 //! Between ticks all three keep only what entered and left. Rstream also keeps the whole relation,
 //! with which it answers, in a list. A tick makes this list the next one, so a row costs the same
 //! however many are held.
 #![tactic(auto)]
 
-ghost use Rattle.std.specs.Prelude.{◌≡◌, ◌+◌, ◌++◌, None, Some, [], map};
-ghost use Rattle.std.specs.Prelude.{IfOk, OnOk, OnErr};
-ghost use Rattle.to_stream.specs.Turns.{State, shown, kept, near, out, ticked, next, HasRoom};
+ghost use Rattle.std.specs.Prelude.{◌≡◌, ◌↔◌, ◌+◌, ◌++◌, None, Some, [], map};
+ghost use Rattle.std.specs.Prelude.{IfOk, IsTrue, OnOk, OnErr};
+ghost use Rattle.to_stream.specs.Turns.{IsStill, State, shown, kept, near, out, ticked, next};
+ghost use Rattle.to_stream.specs.Turns.{HasRoom};
 ghost use Rattle.to_stream.specs.Law.{Stands, StepLaw};
 
 use op_queue::Item;
@@ -22,6 +24,68 @@ use row_bags::{DatedRows, Delta, RowList};
 use std::alloc::{AllocError, Global};
 use std::marker::Model;
 use values::StreamOperator;
+
+/// Is the excerpt of a turn. At a tick it has what entered and left since the last one, and for
+/// Rstream the relation at the last one. It has no rows if the item is rows.
+#[derive(Drop)]
+pub struct Near {
+    /// Says whether Istream, Dstream or Rstream answers.
+    operator: StreamOperator,
+    /// Holds what entered and left since the last tick.
+    delta: Delta,
+    /// Holds the relation at the last tick, in order, for Rstream. Else it has no rows.
+    whole: RowList,
+}
+
+impl Model for Near {
+    ghost use Rattle.to_stream.specs.Turns.{Excerpt};
+
+    ghost Value = { Excerpt };
+
+    ghost view = { λ n. record { operator = n.operator; delta = n.delta; whole = n.whole } };
+}
+
+impl Near {
+    /// Returns whether the excerpts are equal: of one operator, with the same rows. Takes no
+    /// memory.
+    ///
+    /// It costs one look at each row if the rows of both came in the same order.
+    pub fn is_same(&self, other: &Near) -> bool
+        ensures { IsTrue result ↔ (self.now ≡ other.now) }
+    {
+        if self.operator != other.operator {
+            return false;
+        }
+        if !self.whole.is_same(&other.whole) {
+            return false;
+        }
+        self.delta.is_same(&other.delta)
+    }
+
+    /// Pushes the rows that answer to the end of the answers, in order, each with the instant.
+    ///
+    /// # Errors
+    /// `AllocError` when out of memory; then some of the rows may have been pushed.
+    fn push_shown(&self, alloc: Global, at: u64, answers: &mut DatedRows) -> Result<(), AllocError>
+        ensures { OnOk result (answers.new ≡ answers.old
+            ++ map (λ r. (at, r)) (shown self.now.operator self.now.delta self.now.whole)) }
+    {
+        match self.operator {
+            StreamOperator::Istream => {
+                let mut delta = self.delta.copy(alloc)?;
+                delta.push_entered(at, answers)
+            }
+            StreamOperator::Dstream => {
+                let mut delta = self.delta.copy(alloc)?;
+                delta.push_left(at, answers)
+            }
+            StreamOperator::Rstream => {
+                let rows = self.whole.renewed(alloc, &self.delta)?;
+                rows.push_to(answers, at)
+            }
+        }
+    }
+}
 
 /// Holds the state of a root: what entered and left since the last tick, and that tick's instant.
 /// An Rstream also holds the whole relation at that tick.
@@ -76,21 +140,30 @@ impl ToStream {
         self.last
     }
 
-    /// Returns what a turn needs of the state: at a tick the rows that answer, in order.
+    /// Returns what a turn needs of the state.
     ///
-    /// At a tick it costs a copy and a sort of the rows since the last tick, and the rows that
-    /// answer.
+    /// At a tick it costs a copy of the rows since the last tick, and for Rstream of the relation
+    /// at the last tick. It compares no rows.
     ///
     /// # Errors
     /// `AllocError` when out of memory; then nothing has changed.
-    pub fn near(&self, alloc: Global, item: &Item) -> Result<RowList, AllocError>
-        ensures { IfOk result (λ rows. rows ≡ near self.now item.now) }
+    pub fn near(&self, alloc: Global, item: &Item) -> Result<Near, AllocError>
+        ensures { IfOk result (λ excerpt. excerpt ≡ near self.now item.now) }
     {
         match item {
-            Item::Rows(_, _) => Ok(RowList::new(alloc)),
+            Item::Rows(_, _) => Ok(Near {
+                operator: self.operator,
+                delta: Delta::new(alloc),
+                whole: RowList::new(alloc),
+            }),
             Item::Tick(_) => {
-                let rows = self.shown(alloc)?;
-                Ok(rows)
+                let delta = self.delta.copy(alloc)?;
+                let whole = self.whole.copy(alloc)?;
+                Ok(Near {
+                    operator: self.operator,
+                    delta,
+                    whole,
+                })
             }
         }
     }
@@ -127,6 +200,28 @@ impl ToStream {
         Ok(())
     }
 
+    /// Returns whether nothing has entered or left since the last tick, and a tick would answer
+    /// with nothing. For Rstream the relation is empty then.
+    pub fn is_still(&self) -> bool
+        ensures { IsTrue result → IsStill self.now }
+    {
+        if !self.delta.is_empty() {
+            return false;
+        }
+        match self.operator {
+            StreamOperator::Rstream => self.whole.is_empty(),
+            _ => true,
+        }
+    }
+
+    /// Takes the ticks up to that of an instant, which answer with nothing.
+    pub fn pass(&mut self, at: u64)
+        requires { IsStill self.old }
+        ensures { self.new ≡ ticked self.old at }
+    {
+        self.end(at);
+    }
+
     fn turn(&mut self, item: &Item, answers: &mut DatedRows) -> Result<(), AllocError>
         requires { HasRoom self.old item.now }
         ensures answers { OnOk result (answers.new
@@ -147,7 +242,8 @@ impl ToStream {
     /// `AllocError` when out of memory; then the answers are as they were.
     fn answer(&mut self, at: u64, answers: &mut DatedRows) -> Result<(), AllocError>
         ensures answers { OnOk result (answers.new
-            ≡ answers.old ++ map (λ r. (at, r)) (shown self.old.operator self.old)) }
+            ≡ answers.old ++ map (λ r. (at, r))
+            (shown self.old.operator self.old.delta self.old.whole)) }
         ensures state { OnOk result (self.new ≡ ticked self.old at) }
         ensures err { OnErr result (answers.new ≡ answers.old) }
     {
@@ -160,7 +256,8 @@ impl ToStream {
     /// tick.
     fn put(&mut self, at: u64, answers: &mut DatedRows) -> Result<(), AllocError>
         ensures answers { OnOk result (answers.new
-            ≡ answers.old ++ map (λ r. (at, r)) (shown self.old.operator self.old)) }
+            ≡ answers.old ++ map (λ r. (at, r))
+            (shown self.old.operator self.old.delta self.old.whole)) }
         ensures whole { OnOk result (self.new.whole ≡ kept self.old.operator self.old) }
         ensures operator { self.new.operator ≡ self.old.operator }
         ensures err { OnErr result (answers.new ≡ answers.old) }
@@ -189,26 +286,6 @@ impl ToStream {
         self.last = Some(at);
     }
 
-    /// Returns the rows that answer at a tick, in order.
-    fn shown(&self, alloc: Global) -> Result<RowList, AllocError>
-        ensures { IfOk result (λ rows. rows ≡ shown self.now.operator self.now) }
-    {
-        match self.operator {
-            StreamOperator::Istream => {
-                let rows = self.delta.entered(alloc)?;
-                Ok(rows)
-            }
-            StreamOperator::Dstream => {
-                let rows = self.delta.left(alloc)?;
-                Ok(rows)
-            }
-            StreamOperator::Rstream => {
-                let rows = self.whole.renewed(alloc, &self.delta)?;
-                Ok(rows)
-            }
-        }
-    }
-
     fn step(&mut self, item: &Item) -> Result<(), AllocError>
         requires { HasRoom self.old item.now }
         ensures { OnOk result (self.new ≡ next self.old item.now) }
@@ -233,16 +310,16 @@ impl ToStream {
 }
 
 /// Returns the answers of a turn, which then wait: rows, each with the item's instant. An item of
-/// rows has no answers.
+/// rows has no answers. At a tick it costs a sort of the rows since the last tick, and the answers.
 ///
 /// # Errors
 /// `AllocError` when out of memory; then nothing has changed.
-pub fn work(alloc: Global, item: &Item, near: &RowList) -> Result<DatedRows, AllocError>
+pub fn work(alloc: Global, item: &Item, near: &Near) -> Result<DatedRows, AllocError>
     ensures { IfOk result (λ answers. answers ≡ out item.now near.now) }
 {
     let mut answers = DatedRows::new(alloc);
     if let Item::Tick(at) = item {
-        near.push_to(&mut answers, *at)?;
+        near.push_shown(alloc, *at, &mut answers)?;
     }
     Ok(answers)
 }

@@ -68,7 +68,7 @@ FitsGroup (near.Groups groups) = Unit {0}
 FitsGroup n = ⊥
 
 abbrev pub FitsRoot : Near → Type 0
-FitsRoot (near.Sorted rows) = Unit {0}
+FitsRoot (near.Lists lists) = Unit {0}
 FitsRoot n = ⊥
 
 abbrev pub FitsKind : Kind → Side → Item → Near → Type 0
@@ -116,7 +116,7 @@ group_outs g i (near.Groups groups) = Put (group.out g i groups)
 group_outs g i n = Put []
 
 abbrev pub root_outs : Item → Near → Outs
-root_outs i (near.Sorted rows) = Answered (root.out i rows)
+root_outs i (near.Lists lists) = Answered (root.out i lists)
 root_outs i n = Answered []
 
 abbrev pub outs_at : Kind → Side → Item → Near → Outs

@@ -1,7 +1,6 @@
 //! What turns need of the states of operators.
 ghost use Rattle.std.specs.Prelude.{◌≡◌, ◌↔◌, IsTrue};
 
-use row_bags::RowList;
 use std::marker::Model;
 use windows::{FallenRows, RowTable, SlideNear};
 
@@ -37,13 +36,13 @@ pub enum Near {
     Met(MetRows),
     /// Holds the touched groups; none if the item is rows.
     Groups(group::Near),
-    /// Holds the rows that answer, in order; none if the item is rows.
-    Sorted(RowList),
+    /// Holds the lists that a root's answers are made of; none if the item is rows.
+    Lists(to_stream::Near),
 }
 
 impl Near {
     /// Returns whether the excerpts are equal: of one kind, with the same rows or groups in the
-    /// same order.
+    /// same order. Lists of one bag are equal in any order.
     pub fn is_same(&self, other: &Near) -> bool
         ensures { IsTrue result ↔ (self.now ≡ other.now) }
     {
@@ -54,7 +53,7 @@ impl Near {
             (Near::Fallen(rows), Near::Fallen(others)) => rows.is_same(others),
             (Near::Met(met), Near::Met(other)) => met.near.is_same(&other.near),
             (Near::Groups(groups), Near::Groups(others)) => groups.is_same(others),
-            (Near::Sorted(rows), Near::Sorted(others)) => rows.is_same(others),
+            (Near::Lists(lists), Near::Lists(others)) => lists.is_same(others),
             _ => false,
         }
     }

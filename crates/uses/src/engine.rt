@@ -16,7 +16,12 @@ pub(crate) fn show_calls<R: Print>(rt: &R, alloc: Global) -> Result<(), Stop> {
     a_heartbeat_closes_instants(rt, alloc)?;
     a_drain_answers_the_same_by_any_turns(rt, alloc)?;
     a_drain_stops_after_some_turns(rt, alloc)?;
+    a_gap_costs_few_turns(rt, alloc)?;
     a_take_returns_the_first_answers(rt, alloc)?;
+    a_take_returns_a_flat_list(rt, alloc)?;
+    a_peek_takes_nothing(rt, alloc)?;
+    answers_are_taken_once_they_are_kept(rt, alloc)?;
+    a_status_says_how_far_all_is(rt, alloc)?;
     a_dropped_query_is_gone(rt, alloc)?;
     a_name_leads_to_a_number(rt, alloc)
 }
@@ -176,6 +181,31 @@ fn a_drain_stops_after_some_turns<R: Print>(rt: &R, alloc: Global) -> Result<(),
     Ok(())
 }
 
+/// Lists queries that have nothing to do at an instant without rows.
+const STILL: [&str; 5] = [
+    "Select Rstream(a) From S [Now]",
+    "Select Istream(a) From S [Range 10]",
+    "Select Istream(a) From S [Partition By a Rows 1]",
+    "Select Istream(a, Count(*)) From S [Range 10] Group By a",
+    "Select Istream(x.a) From S [Range 10] x, S [Now] y Where x.a = y.a",
+];
+
+/// Shows that a gap costs few turns, however long it is.
+///
+/// A heartbeat closes 50,000 instants without rows. The query passes them at once, so a drain of 64
+/// turns leaves nothing to do.
+fn a_gap_costs_few_turns<R: Print>(rt: &R, alloc: Global) -> Result<(), Stop> {
+    for text in &STILL {
+        let mut engine = engine_with(alloc, text)?;
+        fill(alloc, &mut engine)?;
+        engine.drain(256)?;
+        engine.heartbeat(0, 50_000)?;
+        let more = engine.drain_some(256, 64)?;
+        println!(rt; "a_gap_costs_few_turns: more {more}")?;
+    }
+    Ok(())
+}
+
 /// Shows how many answers wait, before a take of one answer, between, and after a take of all.
 ///
 /// Two answers wait, then one, then none.
@@ -189,6 +219,75 @@ fn a_take_returns_the_first_answers<R: Print>(rt: &R, alloc: Global) -> Result<(
     }
     let waiting = engine.waiting(0)?;
     println!(rt; "a_take_returns_the_first_answers: {waiting} wait")?;
+    Ok(())
+}
+
+/// Shows a take of all answers in one flat list.
+///
+/// Two answers of one value each take two words and a value each: 6 words.
+fn a_take_returns_a_flat_list<R: Print>(rt: &R, alloc: Global) -> Result<(), Stop> {
+    let mut engine = filled(alloc)?;
+    engine.drain(256)?;
+    let answers = engine.take_flat(0, 100)?;
+    let (count, words) = (answers.len(), answers.words());
+    let rows = answers.to_rows(alloc)?;
+    println!(rt; "a_take_returns_a_flat_list: {count} in {words} words, {rows:?}")?;
+    Ok(())
+}
+
+/// Shows that a peek leaves the answers where they are.
+///
+/// A peek at one shows the first; then both still wait.
+fn a_peek_takes_nothing<R: Print>(rt: &R, alloc: Global) -> Result<(), Stop> {
+    let mut engine = filled(alloc)?;
+    engine.drain(256)?;
+    let rows = engine.peek(0, 1)?.to_rows(alloc)?;
+    let waiting = engine.waiting(0)?;
+    println!(rt; "a_peek_takes_nothing: {rows:?}, {waiting} wait")?;
+    Ok(())
+}
+
+/// Shows a take of what a peek showed.
+///
+/// The answer is copied first. Had memory run out for the copy, it would still wait. The second
+/// answer waits on.
+fn answers_are_taken_once_they_are_kept<R: Print>(rt: &R, alloc: Global) -> Result<(), Stop> {
+    let mut engine = filled(alloc)?;
+    engine.drain(256)?;
+    let first = engine.peek(0, 1)?;
+    let kept = first.to_rows(alloc)?;
+    engine.take_shown(0, 1, &first);
+    let waiting = engine.waiting(0)?;
+    println!(rt; "answers_are_taken_once_they_are_kept: {kept:?}, {waiting} waits")?;
+    Ok(())
+}
+
+/// Shows how far a query and its stream are: before a drain, after it, and after a take of one.
+///
+/// The stream has closed the instant 1. No answer is complete before the drain, so the query is at
+/// -1. After it both answers wait, up to the instant 1; then one was taken.
+fn a_status_says_how_far_all_is<R: Print>(rt: &R, alloc: Global) -> Result<(), Stop> {
+    let mut engine = filled(alloc)?;
+    show_status(rt, &engine)?;
+    engine.drain(256)?;
+    show_status(rt, &engine)?;
+    engine.take(0, 1)?;
+    show_status(rt, &engine)
+}
+
+/// Prints how far each query and each stream is.
+fn show_status<R: Print>(rt: &R, engine: &Engine) -> Result<(), Stop> {
+    let status = engine.status()?;
+    for it in &status.queries {
+        let (base, taken, waiting, upto) = (it.base, it.taken, it.waiting, it.upto);
+        println!(rt;
+            "a_status_says_how_far_all_is: {base}, {taken} taken, {waiting} wait, {upto}"
+        )?;
+    }
+    for it in &status.streams {
+        let (closed, rows) = (it.closed, it.rows);
+        println!(rt; "a_status_says_how_far_all_is: closed {closed}, {rows} rows")?;
+    }
     Ok(())
 }
 

@@ -10,13 +10,18 @@ use leases::Leased;
 use reference::Fault;
 use std::alloc::{AllocError, Global};
 use std::sync::Wait;
+use workers::{NoGate, help};
 
 /// Shows what clients of a hub call.
 pub(crate) fn show_calls<R: Print + Wait>(rt: &R, alloc: Global) -> Result<(), Stop> {
     a_hub_answers_two_seats(rt, alloc)?;
     an_opening_sets_limits(rt, alloc)?;
+    a_drain_lets_others_in(rt, alloc)?;
+    calls_name_streams_and_queries(rt, alloc)?;
+    a_burst_wakes_a_worker_once(rt, alloc)?;
     a_query_of_a_hub_is_dropped(rt, alloc)?;
-    anyone_looks_without_a_seat(rt, alloc)
+    anyone_looks_without_a_seat(rt, alloc)?;
+    a_hub_says_how_far_it_is(rt, alloc)
 }
 
 /// Shows what workers of a hub call.
@@ -24,16 +29,21 @@ pub(crate) fn show_turns<R: Print + Wait>(rt: &R, alloc: Global) -> Result<(), S
     a_worker_runs_a_turn(rt, alloc)?;
     a_worker_gives_a_turn_up(rt, alloc)?;
     a_worker_runs_turns_to_rest(rt, alloc)?;
-    a_worker_waits_until_the_end(rt, alloc)
+    a_worker_waits_until_the_end(rt, alloc)?;
+    a_worker_waits_for_a_change(rt, alloc)?;
+    a_helper_runs_turns_until_the_end(rt, alloc)
 }
 
 /// Shows receipts, the history, and how it is forgotten and returned.
 pub(crate) fn show_history<R: Print + Wait>(rt: &R, alloc: Global) -> Result<(), Stop> {
     a_seat_keeps_receipts(rt, alloc)?;
     a_seat_learns_of_another(rt, alloc)?;
+    a_seat_settles(rt, alloc)?;
     a_close_wants_every_seat(rt, alloc)?;
     a_closed_hub_shows_its_history(rt, alloc)?;
-    a_forget_restarts_the_history(rt, alloc)
+    a_forget_restarts_the_history(rt, alloc)?;
+    a_settle_forgets_if_that_is_due(rt, alloc)?;
+    a_hub_forgets_by_itself(rt, alloc)
 }
 
 /// Copies a text.
@@ -90,8 +100,8 @@ fn a_hub_answers_two_seats<R: Print + Wait>(rt: &R, alloc: Global) -> Result<(),
     hub.append(rt, &mut zero, stream, rows(alloc, &[(0, 2), (1, 5)])?)?;
     hub.heartbeat(rt, &mut zero, stream, 1)?;
     hub.drain(rt, 256)?;
-    let (answers, receipt) = hub.take(rt, &mut one, query, 100)?;
-    let entry = receipt.number();
+    let (taken, receipt) = hub.take(rt, &mut one, query, 100)?;
+    let (answers, entry) = (taken.to_rows(alloc)?, receipt.number());
     println!(rt; "a_hub_answers_two_seats: {answers:?}, entry {entry}")?;
     Ok(())
 }
@@ -107,6 +117,48 @@ fn an_opening_sets_limits<R: Print + Wait>(rt: &R, alloc: Global) -> Result<(), 
     hub.stream(rt, &mut seat, text(alloc, "S")?, columns(alloc)?, 0)?;
     let second = hub.stream(rt, &mut seat, text(alloc, "T")?, columns(alloc)?, 0);
     println!(rt; "an_opening_sets_limits: {refused:?} {:?}", second.err())?;
+    Ok(())
+}
+
+/// Shows a drain of five turns at a time.
+///
+/// The query `q` has three operators, and two rows with their ticks go through each: twelve turns
+/// in all. So after the third call nothing is ready.
+fn a_drain_lets_others_in<R: Print + Wait>(rt: &R, alloc: Global) -> Result<(), Stop> {
+    let (hub, _, _) = filled(rt, alloc)?;
+    for _ in 0..3 {
+        let more = hub.drain_some(rt, 256, 5)?;
+        println!(rt; "a_drain_lets_others_in: more {more}")?;
+    }
+    Ok(())
+}
+
+/// Shows calls that name what they are for.
+///
+/// Each looks the name up and does the rest under one taking of the lock. No query has the name r.
+fn calls_name_streams_and_queries<R: Print + Wait>(rt: &R, alloc: Global) -> Result<(), Stop> {
+    let (hub, mut zero, _) = opened(alloc)?;
+    declare(rt, alloc, &hub, &mut zero)?;
+    hub.append_named(rt, &mut zero, "S", rows(alloc, &[(0, 2), (1, 5)])?)?;
+    hub.heartbeat_named(rt, &mut zero, "S", 1)?;
+    hub.drain(rt, 256)?;
+    let (taken, _) = hub.take_named(rt, &mut zero, "q", 100)?;
+    let answers = taken.to_rows(alloc)?;
+    let unknown = hub.take_named(rt, &mut zero, "r", 100).err();
+    println!(rt; "calls_name_streams_and_queries: {answers:?} {unknown:?}")?;
+    Ok(())
+}
+
+/// Shows calls that wake no worker, and one that does.
+///
+/// The heartbeat wakes nobody, and the drain by five turns neither. Work is left, so `wake` then
+/// wakes one of those who wait for it.
+fn a_burst_wakes_a_worker_once<R: Print + Wait>(rt: &R, alloc: Global) -> Result<(), Stop> {
+    let (hub, mut zero, _) = filled(rt, alloc)?;
+    hub.heartbeat_named(rt, &mut zero, "S", 2)?;
+    let more = hub.drain_some_alone(rt, 256, 5)?;
+    hub.wake(rt);
+    println!(rt; "a_burst_wakes_a_worker_once: more {more}")?;
     Ok(())
 }
 
@@ -129,8 +181,29 @@ fn anyone_looks_without_a_seat<R: Print + Wait>(rt: &R, alloc: Global) -> Result
     let (s, q) = (hub.stream_named(rt, "S"), hub.query_named(rt, "q"));
     let (pending, waiting) = (hub.pending(rt, 0)?, hub.waiting(rt, 0)?);
     println!(rt; "anyone_looks_without_a_seat: S {s:?}, q {q:?}, {pending:?}, {waiting} wait")?;
+    println!(rt; "anyone_looks_without_a_seat: ready {}", hub.has_ready(rt))?;
     for (kind, slope) in hub.slopes(rt, 0)? {
         println!(rt; "anyone_looks_without_a_seat: {kind} {slope}")?;
+    }
+    Ok(())
+}
+
+/// Shows how far streams and queries are, and a peek.
+///
+/// Two rows came, and the instants 0 and 1 are closed. After a drain both answers wait, and they
+/// are complete up to the instant 1. The peek takes neither.
+fn a_hub_says_how_far_it_is<R: Print + Wait>(rt: &R, alloc: Global) -> Result<(), Stop> {
+    let (hub, _, _) = filled(rt, alloc)?;
+    hub.drain(rt, 256)?;
+    let seen = hub.peek(rt, 0, 100)?.to_rows(alloc)?;
+    let status = hub.status(rt)?;
+    for stream in &status.streams {
+        let (closed, rows) = (stream.closed, stream.rows);
+        println!(rt; "a_hub_says_how_far_it_is: {rows} rows, closed up to {closed}")?;
+    }
+    for query in &status.queries {
+        let (waiting, upto) = (query.waiting, query.upto);
+        println!(rt; "a_hub_says_how_far_it_is: {waiting} wait, complete up to {upto}, {seen:?}")?;
     }
     Ok(())
 }
@@ -189,7 +262,8 @@ fn run_to_rest<R: Wait>(rt: &R, alloc: Global, hub: &Hub) -> Result<(), Fault> {
 fn a_worker_runs_turns_to_rest<R: Print + Wait>(rt: &R, alloc: Global) -> Result<(), Stop> {
     let (hub, mut zero, _) = filled(rt, alloc)?;
     run_to_rest(rt, alloc, &hub)?;
-    let (answers, _) = hub.take(rt, &mut zero, 0, 100)?;
+    let (taken, _) = hub.take(rt, &mut zero, 0, 100)?;
+    let answers = taken.to_rows(alloc)?;
     println!(rt; "a_worker_runs_turns_to_rest: {answers:?}")?;
     Ok(())
 }
@@ -210,6 +284,33 @@ fn a_worker_waits_until_the_end<R: Print + Wait>(rt: &R, alloc: Global) -> Resul
         }
         hub.end(rt);
     }
+    Ok(())
+}
+
+/// Shows a worker that waits for a change.
+///
+/// A turn is ready, so the first wait ends at once. There was one change by then: the heartbeat.
+/// The drain is another, so the second wait ends at once, too. After the end nothing is waited for.
+fn a_worker_waits_for_a_change<R: Print + Wait>(rt: &R, alloc: Global) -> Result<(), Stop> {
+    let (hub, _, _) = filled(rt, alloc)?;
+    let seen = hub.wait_ready(rt);
+    hub.drain_some(rt, 256, 1)?;
+    hub.wait_for_change(rt, seen.unwrap_or(0));
+    hub.end(rt);
+    let after = hub.wait_ready(rt);
+    println!(rt; "a_worker_waits_for_a_change: {seen:?}, then {after:?}")?;
+    Ok(())
+}
+
+/// Shows a helper: a worker beside clients that drain.
+///
+/// The end is called before it starts, so it runs no turn and returns.
+fn a_helper_runs_turns_until_the_end<R: Print + Wait>(rt: &R, alloc: Global) -> Result<(), Stop> {
+    let (hub, _, _) = filled(rt, alloc)?;
+    hub.end(rt);
+    help(rt, alloc, &hub, &NoGate, 256);
+    let waiting = hub.waiting(rt, 0)?;
+    println!(rt; "a_helper_runs_turns_until_the_end: {waiting} wait")?;
     Ok(())
 }
 
@@ -238,6 +339,24 @@ fn a_seat_learns_of_another<R: Print + Wait>(rt: &R, alloc: Global) -> Result<()
     let (_, take) = hub.take(rt, &mut one, 0, 100)?;
     let entry = take.number();
     println!(rt; "a_seat_learns_of_another: reach {reach}, entry {entry}")?;
+    Ok(())
+}
+
+/// Shows a seat that settles, and one that cannot.
+///
+/// Seat 0 holds four receipts, which are the entries 0 to 3. Once they agree with the history, they
+/// are gone, and all below 4 is settled. A seat of another hub is refused, and keeps its receipts.
+fn a_seat_settles<R: Print + Wait>(rt: &R, alloc: Global) -> Result<(), Stop> {
+    let (hub, mut zero, _) = filled(rt, alloc)?;
+    let agrees = hub.settle(rt, &mut zero);
+    let (count, until) = (zero.settled().count, zero.settled().until);
+    let held = zero.receipts().len();
+    println!(rt; "a_seat_settles: {agrees}, {count} calls up to {until}, {held} receipts")?;
+    let (other, _, _) = opened(alloc)?;
+    let (_, mut foreign, _) = filled(rt, alloc)?;
+    let agrees = other.settle(rt, &mut foreign);
+    let held = foreign.receipts().len();
+    println!(rt; "a_seat_settles: {agrees}, {held} receipts")?;
     Ok(())
 }
 
@@ -288,5 +407,30 @@ fn a_forget_restarts_the_history<R: Print + Wait>(rt: &R, alloc: Global) -> Resu
         println!(rt; "a_forget_restarts_the_history: {first} replaced, {entries} left")?;
         println!(rt; "a_forget_restarts_the_history: {queries} query, next {next:?}")?;
     }
+    Ok(())
+}
+
+/// Shows a settle after which the hub forgets.
+///
+/// It is due, as in the next example. The opening keeps what made it so, so it is not due again.
+fn a_settle_forgets_if_that_is_due<R: Print + Wait>(rt: &R, alloc: Global) -> Result<(), Stop> {
+    let (hub, mut zero, _) = filled(rt, alloc)?;
+    let agrees = hub.settle_and_forget(rt, &mut zero, 80, true);
+    let is_due = hub.is_due(rt, 80);
+    println!(rt; "a_settle_forgets_if_that_is_due: {agrees}, due again {is_due}")?;
+    Ok(())
+}
+
+/// Shows a hub that forgets by itself.
+///
+/// The history has four entries with a weight of 16 each. Its two rows of an instant and a value
+/// have a weight of 8 each. That is 80 values, so it is due for a limit of 80, and not for one of
+/// 81. For a limit of 0 it never is.
+fn a_hub_forgets_by_itself<R: Print + Wait>(rt: &R, alloc: Global) -> Result<(), Stop> {
+    let (hub, mut zero, _) = filled(rt, alloc)?;
+    hub.settle(rt, &mut zero);
+    let due = (hub.is_due(rt, 0), hub.is_due(rt, 81), hub.is_due(rt, 80));
+    let (first, second) = (hub.forget_if_due(rt, 80)?, hub.forget_if_due(rt, 80)?);
+    println!(rt; "a_hub_forgets_by_itself: {due:?}, then {first} and {second}")?;
     Ok(())
 }

@@ -80,7 +80,12 @@ impl Responder<u64> for Counter {
 
     ghost notes = { λ _ _ _. false };
 
-    fn respond(&self, count: &mut u64, read: Result<Request, WireFault>) -> (Reply, bool) {
+    fn respond(
+        &self,
+        count: &mut u64,
+        read: Result<Request, WireFault>,
+        _waits: bool,
+    ) -> (Reply, bool) {
         match read {
             Ok(_) => {
                 *count = count.saturating_add(1);

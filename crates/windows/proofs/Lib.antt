@@ -15,3 +15,4 @@ pub mod LatestLaw
 pub mod RangeLaw
 pub mod SlideLaw
 pub mod SlideLemmas
+pub mod StillLemmas

@@ -1,5 +1,5 @@
 //! Keeps the rows that are held, with their instants.
-ghost use Rattle.std.specs.Prelude.{◌≡◌, ◌<◌, ◌≤◌, ◌+◌, ◌-◌, ◌++◌, [], length, map, drop, take};
+ghost use Rattle.std.specs.Prelude.{◌≡◌, ℕ, ◌<◌, ◌≤◌, ◌+◌, ◌-◌, ◌++◌, [], length, map, drop, take};
 ghost use Rattle.std.specs.Prelude.{IfOk, OnOk, OnErr, nat_lt};
 ghost use Rattle.std.specs.List.{filter};
 ghost use Rattle.std.specs.List.Sorted.{IsNonDecreasingBy};
@@ -73,6 +73,21 @@ impl HeldRows {
     {
         let _len = self.rows.len(); // for the proof
         count_below(&self.runs, first)
+    }
+
+    /// Returns an instant before which no row is held: mostly that of the first row.
+    pub(crate) fn first_instant(&self) -> u64
+        requires { IsNonDecreasingBy (λ h. h.0) self.now.held }
+        ensures { (k : ℕ) → k ≤ result → filter (λ h. nat_lt h.0 k) self.now.held ≡ [] }
+    {
+        let first = match self.runs.front() {
+            Some(run) => run.instant,
+            None => u64::MAX,
+        };
+        if self.count_older(first) == 0 {
+            return first;
+        }
+        0
     }
 
     /// Returns a copy of the rows from one place on to another.

@@ -10,7 +10,7 @@ use std::collections::VecDeque;
 #[derive(Clone, Copy)]
 pub(crate) struct Run {
     /// Holds the instant.
-    instant: u64,
+    pub(crate) instant: u64,
     /// Counts the rows in succession that have it.
     count: usize,
 }

@@ -1,6 +1,7 @@
 //! Keeps the rows of the last instants, and changes what it shows only at the multiples of a
 //! number.
-ghost use Rattle.std.specs.Prelude.{◌≡◌, ◌<◌, ◌++◌, ◌↔◌, [], IsTrue, length, IfOk, OnOk, OnErr};
+ghost use Rattle.std.specs.Prelude.{◌≡◌, ℕ, ◌<◌, ◌≤◌, ◌++◌, ◌↔◌, [], false, IsTrue, length, IfOk};
+ghost use Rattle.std.specs.Prelude.{OnOk, OnErr};
 ghost use Rattle.std.specs.List.{flat_map};
 ghost use Rattle.op_queue.specs.Entries.{IsForward};
 ghost use Rattle.op_queue.specs.Items.{entries_of, item_instant};
@@ -227,6 +228,13 @@ impl SlideWindow {
         moves(self.step, at)
     }
 
+    /// Returns an instant below which, from `start` on, it does not move: the next multiple.
+    pub fn stays_until(&self, start: u64) -> u64
+        ensures { (t : ℕ) → start ≤ t → t < result → spec.moves self.now.step t ≡ false }
+    {
+        stays_until(self.step, start)
+    }
+
     /// Returns the excerpt of a tick at which it moves.
     fn near_at(&self, alloc: Global, at: u64) -> Result<SlideNear, AllocError>
         ensures value { IfOk result (λ n. n ≡ near_at self.now at) }
@@ -271,6 +279,18 @@ fn moves(step: u64, at: u64) -> bool
     ensures { result ≡ spec.moves step at }
 {
     at / step * step == at
+}
+
+/// Returns an instant below which, from `start` on, no multiple of the step is.
+fn stays_until(step: u64, start: u64) -> u64
+    requires { 0 < step }
+    ensures { (t : ℕ) → start ≤ t → t < result → spec.moves step t ≡ false }
+{
+    let last = start / step * step;
+    if last == start {
+        return start;
+    }
+    last.saturating_add(step)
 }
 
 /// Returns the excerpt with no row.

@@ -3,6 +3,7 @@ pub mod Sinks
 pub mod Windows
 pub mod Cuts
 pub mod Reading
+pub mod Listed
 pub mod Printing
 pub mod AlikeLemmas
 pub mod Leading

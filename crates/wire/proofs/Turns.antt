@@ -3,6 +3,7 @@ use Rattle.std.proofs.Common.{◌≡◌, ◌≤◌, ◌<◌, ℕ, Bool, true, fa
 use Rattle.std.specs.Prelude.{not, ◌&&◌, nat_le, None, ⊤, OnOk, OnErr, IfErr}
 use Rattle.std.proofs.lemmas.Bool.{le-leb, false≢true}
 use Rattle.reference.specs.Alike.{Alike}
+use Rattle.reference.specs.Machine.{ends_at}
 use Rattle.reference.specs.World.{World, Step, Drains, IsPlenty, IsTurnSize, StopsEarly, is_scarce, drain_step, drain_fault, unless, untaken}
 use Rattle.names.specs.Faults.{first_of}
 use Rattle.reference.specs.declared.limits.TheConstants.{MAX_TURN}
@@ -21,7 +22,7 @@ no_fault rows low high = ap (λ (t : Bool). first_of ((not t, BadLimit) ∷ []))
 
 same_drain : (w : World) (rows : ℕ) → 0 < rows → rows ≤ 1024 → drain_step w rows ≡ drain_step w 1
 unfolding drain_step
-same_drain w rows low high = ap (λ f. unless f w tt (record w { waiting = map (untaken w.machine) w.machine.queries })) (no_fault rows low high)
+same_drain w rows low high = ap (λ f. unless f w tt (record w { waiting = map (untaken w.machine) w.machine.queries; upto = map (ends_at w.machine) w.machine.queries })) (no_fault rows low high)
 
 -- a drain that was refused stopped early for what was scarce, or did what its step says
 refused_drain : (old new : World) (step : Step ⊤) (fault : Fault) → Drains old step (Err fault) new

@@ -21,12 +21,12 @@ use Rattle.serde_json.specs.Data as value
 use Rattle.serde_json.specs.Find.{as_i64, of_integer}
 use Rattle.serde_json.specs.Read.{number_of, of_json, of_items, max_depth, read}
 use Rattle.serde_json.proofs.Numbers.{number_of-decimal, number_of-negative}
-use Rattle.wire.specs.Calls.{NewRow, Call, append, heartbeat, take_rows, drain}
-use Rattle.wire.specs.Asked.{each, value_of, row_in, asked, asked_by, append_in, heartbeat_in, take_in}
+use Rattle.wire.specs.Calls.{NewRow, Call, append, heartbeat, take_rows, peek_rows, drain}
+use Rattle.wire.specs.Asked.{each, value_of, row_in, asked, asked_by, append_in, heartbeat_in, take_in, peek_in}
 use Rattle.wire.specs.Printed.{value_text, after_commas, row_text, rows_text}
 use Rattle.wire.specs.Requests.{json_of, call_in}
 use Rattle.wire.specs.declared.request.WireFault.TheVariants.{BadRequest}
-use Rattle.wire.specs.Usual.{IsShort, ValueIsShort, RowIsShort, IsPlain, append_line, heartbeat_line, take_line}
+use Rattle.wire.specs.Usual.{IsShort, ValueIsShort, RowIsShort, IsPlain, append_line, heartbeat_line, take_line, peek_line}
 
 -- ---- the values of JSON that the line writes
 
@@ -336,6 +336,39 @@ take_is_read line name limit is known plain short =
     (tt, (tt, (number_short limit short, tt))) (omega arith) (of_take name limit short) in
     let text = utf8_named (codes "{\"op\":\"take\",\"query\":\"") name (codes "\",\"limit\":") limit refl known refl short in
     call_is_read line (take_line name limit) (take_data name limit) (take_rows name limit) is text found (asked_take name limit short)
+
+-- ---- peeks
+
+abbrev peek_json : List ℕ → ℤ → json.Json
+peek_json name limit =
+    json.object (json.member (codes "op") (json.string (codes "peek")) (json.member (codes "query") (json.string name)
+    (json.member (codes "limit") (json.number (signed_decimal limit)) json.no_members)))
+
+abbrev peek_data : List ℕ → ℤ → value.Data
+peek_data name limit =
+    value.object (value.put (codes "limit") (value.number (of_integer limit)) (value.put (codes "query") (value.string name)
+    (value.put (codes "op") (value.string (codes "peek")) value.no_members)))
+
+print_peek : (name : List ℕ) (limit : ℤ) → escape name ≡ name → print (json_tokens (peek_json name limit)) ≡ peek_line name limit
+unfolding print_from escape_byte
+print_peek name limit plain =
+    ap (λ s. codes "{\"op\":\"peek\",\"query\":\"" ++ s)
+    (ap (λ n. (n ++ 34 ∷ []) ++ (codes ",\"limit\":" ++ (signed_decimal limit ++ codes "}"))) plain ∙ take_around name (signed_decimal limit))
+
+of_peek : (name : List ℕ) (limit : ℤ) → IsShort limit → of_json (peek_json name limit) ≡ Some (peek_data name limit)
+of_peek name limit short = rw (number_of_short limit short) refl
+
+asked_peek : (name : List ℕ) (limit : ℤ) → IsShort limit → asked (peek_data name limit) ≡ Some (peek_rows name limit)
+unfolding asked asked_by peek_in
+asked_peek name limit short = ap (option_map (peek_rows name)) (integer_short limit short)
+
+pub peek_is_read : (line name : List ℕ) (limit : ℤ) → line ≡ peek_line name limit → IsUtf8 name → AllByRecursion IsPlain name → IsShort limit
+    → call_in (json_of line) ≡ Ok (peek_rows name limit)
+peek_is_read line name limit is known plain short =
+    let found = read_printed (peek_line name limit) (peek_json name limit) (peek_data name limit) (print_peek name limit (escape_plain name plain))
+    (tt, (tt, (number_short limit short, tt))) (omega arith) (of_peek name limit short) in
+    let text = utf8_named (codes "{\"op\":\"peek\",\"query\":\"") name (codes "\",\"limit\":") limit refl known refl short in
+    call_is_read line (peek_line name limit) (peek_data name limit) (peek_rows name limit) is text found (asked_peek name limit short)
 
 -- ---- drains
 

@@ -5,7 +5,7 @@ use Rattle.serde_json.specs.Data.{Data, null, boolean, number, string, array, ob
 use Rattle.serde_json.specs.Data.{no_items, item}
 use Rattle.serde_json.specs.Find.{get, as_str, as_number, as_array, as_i64}
 use Rattle.wire.specs.Calls.{NewRow, Call, declare, register, append, heartbeat, drain, take_rows}
-use Rattle.wire.specs.Calls.{drop_query, forget, show_plan}
+use Rattle.wire.specs.Calls.{peek_rows, drop_query, forget, show_plan, show_status}
 
 -- ---- the kinds of value
 
@@ -87,6 +87,10 @@ unfoldable pub take_in : Data → Option Call
 take_in d = option_and_then (λ query. option_map (λ limit. take_rows query limit)
     (integer_at (codes "limit") d)) (text_at (codes "query") d)
 
+unfoldable pub peek_in : Data → Option Call
+peek_in d = option_and_then (λ query. option_map (λ limit. peek_rows query limit)
+    (integer_at (codes "limit") d)) (text_at (codes "query") d)
+
 unfoldable pub drop_query_in : Data → Option Call
 drop_query_in d = option_map drop_query (text_at (codes "query") d)
 
@@ -103,7 +107,9 @@ asked_by op d =
     if bytes_eq op (codes "take") then take_in d else (
     if bytes_eq op (codes "drop") then drop_query_in d else (
     if bytes_eq op (codes "forget") then Some forget else (
-    if bytes_eq op (codes "plan") then plan_in d else None))))))))
+    if bytes_eq op (codes "plan") then plan_in d else (
+    if bytes_eq op (codes "peek") then peek_in d else (
+    if bytes_eq op (codes "status") then Some show_status else None))))))))))
 
 -- the call, or none where the value is no request
 unfoldable pub asked : Data → Option Call

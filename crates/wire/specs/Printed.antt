@@ -1,18 +1,23 @@
 -- The lines of replies.
-use Rattle.std.specs.Prelude.{ℕ, ℤ, List, [], ◌∷◌, ◌++◌, Option, Some, None, codes, flat_map}
+use Rattle.std.specs.Prelude.{ℕ, zero, suc, ℤ, Bool, true, false, List, [], ◌∷◌, ◌++◌}
+use Rattle.std.specs.Prelude.{Option, Some, None, codes, decimal, flat_map}
+use Rattle.std.specs.Arc.{arc_value}
 use Rattle.std.specs.Fmt.{signed_decimal}
 use Rattle.values.specs.Row.{Row}
 use Rattle.envelope.specs.Fraction.{Fraction}
 use Rattle.envelope.specs.LowestTerms.{shown}
 use Rattle.plan.specs.Kinds.{kind_name}
 use Rattle.plan.specs.declared.node.Kind.{Kind}
-use Rattle.reference.specs.CallViews.{handed_of}
 use Rattle.reference.specs.FaultTexts.{fault_text}
+use Rattle.reference.specs.Status.{QueryStatus, StreamStatus}
+use Rattle.reference.specs.Status as defined
+use Rattle.reference.specs.StatusViews.{status_in}
 use Rattle.reference.specs.declared.fault.Fault.{Fault}
 use Rattle.wire.specs.declared.request.WireFault.{WireFault}
 use Rattle.wire.specs.declared.request.WireFault.TheVariants as in_line
 use Rattle.wire.specs.declared.reply.Reply.{Reply}
-use Rattle.wire.specs.declared.reply.Reply.TheVariants.{Done, Rows, Operators, Refused, Unread}
+use Rattle.wire.specs.declared.reply.Reply.TheVariants.{Done, Rows, Shared, Operators, Status}
+use Rattle.wire.specs.declared.reply.Reply.TheVariants.{Refused, Unread}
 
 -- what a request is answered
 pub data Answer : Type 0 where
@@ -21,6 +26,8 @@ pub data Answer : Type 0 where
   rows : List (ℤ × Row) → Answer
   -- what each operator of a query does, and its slope
   operators : List (Kind × Fraction) → Answer
+  -- how far each query and each stream is
+  status : defined.Status → Answer
   -- the engine refused the call
   refused : Fault → Answer
   -- the line is no request
@@ -28,8 +35,10 @@ pub data Answer : Type 0 where
 
 abbrev pub answer_of : Reply → Answer
 answer_of Done = done
-answer_of (Rows taken) = rows (handed_of taken.items)
+answer_of (Rows taken) = rows taken
+answer_of (Shared taken) = rows (arc_value taken)
 answer_of (Operators found) = operators found.items
+answer_of (Status found) = status (status_in found)
 answer_of (Refused fault) = refused fault
 answer_of (Unread fault) = unread fault
 
@@ -40,6 +49,11 @@ value_text (Some z) = signed_decimal z
 -- each text after a comma
 abbrev pub after_commas : {A : Type 0} → (A → List ℕ) → List A → List ℕ
 after_commas f xs = flat_map (λ x. codes "," ++ f x) xs
+
+-- a comma, before all but the first
+abbrev pub comma_before : ℕ → List ℕ
+comma_before zero = []
+comma_before (suc number) = codes ","
 
 -- the instant, then the values
 unfoldable pub row_text : ℤ × Row → List ℕ
@@ -60,6 +74,37 @@ unfoldable pub operators_text : List (Kind × Fraction) → List ℕ
 operators_text [] = []
 operators_text (operator ∷ more) = operator_text operator ++ after_commas operator_text more
 
+-- each text, with commas between them
+abbrev pub with_commas : {A : Type 0} → (A → List ℕ) → List A → List ℕ
+with_commas f [] = []
+with_commas f (x ∷ xs) = f x ++ after_commas f xs
+
+-- a name between quotation marks; it has letters, digits and underscores alone
+unfoldable pub name_text : List ℕ → List ℕ
+name_text name = codes "\"" ++ name ++ codes "\""
+
+-- a key of its own says that a query is broken
+abbrev pub broken_text : Bool → List ℕ
+broken_text true = codes ",\"broken\":true"
+broken_text false = []
+
+-- its keys in the order of their bytes
+unfoldable pub query_status_text : QueryStatus → List ℕ
+query_status_text q = (codes "{\"base\":" ++ signed_decimal q.base) ++ broken_text q.is_broken
+    ++ codes ",\"name\":" ++ name_text q.name ++ (codes ",\"taken\":" ++ decimal q.taken)
+    ++ (codes ",\"upto\":" ++ signed_decimal q.upto)
+    ++ (codes ",\"waiting\":" ++ decimal q.waiting) ++ codes "}"
+
+unfoldable pub stream_status_text : StreamStatus → List ℕ
+stream_status_text s = (codes "{\"closed\":" ++ signed_decimal s.closed) ++ codes ",\"columns\":["
+    ++ with_commas name_text s.columns ++ codes "],\"name\":" ++ name_text s.name
+    ++ (codes ",\"rows\":" ++ decimal s.rows) ++ codes "}"
+
+-- the line of a status
+unfoldable pub status_text : defined.Status → List ℕ
+status_text s = codes "{\"ok\":true,\"queries\":[" ++ with_commas query_status_text s.queries
+    ++ codes "],\"streams\":[" ++ with_commas stream_status_text s.streams ++ codes "]}\n"
+
 abbrev pub wire_fault_text : WireFault → List ℕ
 wire_fault_text in_line.NotJson = codes "N1 NotJson"
 wire_fault_text in_line.BadRequest = codes "N2 BadRequest"
@@ -75,5 +120,6 @@ line_of done = codes "{\"ok\":true}\n"
 line_of (rows taken) = codes "{\"ok\":true,\"rows\":[" ++ rows_text taken ++ codes "]}\n"
 line_of (operators found) = codes "{\"ok\":true,\"operators\":[" ++ operators_text found
     ++ codes "]}\n"
+line_of (status found) = status_text found
 line_of (refused fault) = error_line (fault_text fault)
 line_of (unread fault) = error_line (wire_fault_text fault)

@@ -7,13 +7,14 @@ use Rattle.plan.specs.declared.node.Kind.{Kind}
 use Rattle.reference.specs.Alike.{Alike}
 use Rattle.reference.specs.World.{World, Step, MayLackMemory, StopsEarly, stream_named, query_named}
 use Rattle.reference.specs.World.{declare_step, register_step, append_step, heartbeat_step}
-use Rattle.reference.specs.World.{drain_step, take_step, drop_step, slopes_at}
+use Rattle.reference.specs.World.{drain_step, take_step, peek_at, drop_step, slopes_at}
+use Rattle.reference.specs.Status.{status_of}
 use Rattle.reference.specs.declared.fault.Fault.{Fault}
 use Rattle.reference.specs.declared.fault.Fault.TheVariants as in_engine
 use Rattle.reference.specs.declared.fault.Fault.TheVariants.{TooManyLeases}
 use Rattle.wire.specs.Calls.{Call, declare, register, append, heartbeat, drain, take_rows}
-use Rattle.wire.specs.Calls.{drop_query, forget, show_plan}
-use Rattle.wire.specs.Printed.{Answer, done, rows, operators, refused, unread, line_of}
+use Rattle.wire.specs.Calls.{peek_rows, drop_query, forget, show_plan, show_status}
+use Rattle.wire.specs.Printed.{Answer, done, rows, operators, status, refused, unread, line_of}
 use Rattle.wire.specs.Requests.{requests_of}
 use Rattle.wire.specs.declared.request.WireFault.{WireFault}
 use Rattle.wire.specs.declared.request.WireFault.TheVariants.{LineTooLong, OutOfMemory}
@@ -55,11 +56,14 @@ answered w (heartbeat stream at) =
 answered w drain = done_step (drain_step w 1)
 answered w (take_rows query limit) =
     if_named w in_engine.UnknownQuery (λ n. rows_step (take_step w n limit)) (query_named w query)
+answered w (peek_rows query limit) =
+    if_named w in_engine.UnknownQuery (λ n. (rows_of (peek_at w n limit), w)) (query_named w query)
 answered w (show_plan query) =
     if_named w in_engine.UnknownQuery (λ n. (operators_or (slopes_at w n), w)) (query_named w query)
 answered w (drop_query query) =
     if_named w in_engine.UnknownQuery (λ n. done_step (drop_step w n)) (query_named w query)
 answered w forget = (done, w)
+answered w show_status = (status (status_of w), w)
 
 -- what a request is answered, and the world after it; a line that is no request changes nothing
 abbrev pub served : World → Result Call WireFault → Answer × World
@@ -125,11 +129,13 @@ AnswersCall old call answer new =
     (is_scarce_answer call answer ≡ false → LeadsTo call (answered old call) answer new)
     × (is_scarce_answer call answer ≡ true → LeavesOff old call new)
 
--- An engine has to be whole for its drains and its
--- takes to be answered so, and to give up rows unseen.
+-- An engine has to be whole for its drains, its takes, its peeks and
+-- its status to be answered so, and to give up rows unseen.
 abbrev pub NeedsWhole : Call → Type 0
 NeedsWhole drain = ⊤
 NeedsWhole (take_rows query limit) = ⊤
+NeedsWhole (peek_rows query limit) = ⊤
+NeedsWhole show_status = ⊤
 NeedsWhole forget = ⊤
 NeedsWhole call = ⊥
 

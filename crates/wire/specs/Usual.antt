@@ -39,3 +39,8 @@ heartbeat_line name at = codes "{\"op\":\"heartbeat\",\"stream\":\"" ++ name ++ 
 abbrev pub take_line : List ℕ → ℤ → List ℕ
 take_line name limit = codes "{\"op\":\"take\",\"query\":\"" ++ name ++ codes "\",\"limit\":"
     ++ signed_decimal limit ++ codes "}"
+
+-- what such a take would hand out
+abbrev pub peek_line : List ℕ → ℤ → List ℕ
+peek_line name limit = codes "{\"op\":\"peek\",\"query\":\"" ++ name ++ codes "\",\"limit\":"
+    ++ signed_decimal limit ++ codes "}"

@@ -9,7 +9,7 @@ ghost use Rattle.wire.specs.Calls.{call_of};
 ghost use Rattle.wire.specs.Asked.{text_at, integer_at, list_at, each, value_of};
 ghost use Rattle.wire.specs.Asked.{row_from, row_in, pair_from, pair_in, chart_from as asked_chart};
 ghost use Rattle.wire.specs.Asked.{declare_in, register_in, append_in, heartbeat_in, take_in};
-ghost use Rattle.wire.specs.Asked.{drop_query_in, plan_in, asked_by, asked};
+ghost use Rattle.wire.specs.Asked.{peek_in, drop_query_in, plan_in, asked_by, asked};
 
 use crate::request::Request;
 use reference::{Chart, NewRows};
@@ -267,6 +267,20 @@ fn take_in(alloc: Global, value: &Value) -> Result<Option<Request>, AllocError>
     Ok(Some(Request::Take { query, limit }))
 }
 
+#[tactic(auto, unfolding(crate::specs::Asked::peek_in))]
+fn peek_in(alloc: Global, value: &Value) -> Result<Option<Request>, AllocError>
+    ensures { IfOk result (λ o. option_map call_of o ≡ peek_in (view value.now)) }
+{
+    let Some(query) = text_at(value, "query") else {
+        return Ok(None);
+    };
+    let Some(limit) = integer_at(value, "limit") else {
+        return Ok(None);
+    };
+    let query = String::from_str(alloc, query)?;
+    Ok(Some(Request::Peek { query, limit }))
+}
+
 #[tactic(auto, unfolding(crate::specs::Asked::drop_query_in))]
 fn drop_query_in(alloc: Global, value: &Value) -> Result<Option<Request>, AllocError>
     ensures { IfOk result (λ o. option_map call_of o ≡ drop_query_in (view value.now)) }
@@ -319,6 +333,12 @@ fn asked_by(alloc: Global, op: &str, value: &Value) -> Result<Option<Request>, A
     }
     if op == "plan" {
         return plan_in(alloc, value);
+    }
+    if op == "peek" {
+        return peek_in(alloc, value);
+    }
+    if op == "status" {
+        return Ok(Some(Request::Status));
     }
     Ok(None)
 }

@@ -31,7 +31,8 @@ pub trait Responder<T> {
     ghost notes: { Self → Result Call WireFault → Answer → Bool };
 
     /// Answers what was read of a line. Returns the reply, and whether the request is noted.
-    fn respond(&self, state: &mut T, read: Result<Request, WireFault>) -> (Reply, bool)
+    /// `waits` says that no further line was read ahead, so that the source is read next.
+    fn respond(&self, state: &mut T, read: Result<Request, WireFault>, waits: bool) -> (Reply, bool)
         ensures replies { (defined : Result Call WireFault) → Reads defined read
             → replies self.now state.old defined (answer_of result.0) state.new }
         ensures notes { (defined : Result Call WireFault) → Reads defined read
@@ -85,6 +86,7 @@ fn add_answer<K: Sink, T, A: Responder<T>>(
     responder: &A,
     state: &mut T,
     read: Result<Request, WireFault>,
+    waits: bool,
 ) -> bool
     ensures { (answer : Answer)
         × ((defined : Result Call WireFault) → Reads defined read
@@ -94,7 +96,7 @@ fn add_answer<K: Sink, T, A: Responder<T>>(
         × Writes (K.taken sink.old) (K.failures sink.old) page.old
         (K.taken sink.new) (K.failures sink.new) page.new (line_of answer) }
 {
-    let (reply, is_noted) = responder.respond(state, read);
+    let (reply, is_noted) = responder.respond(state, read, waits);
     add_reply(sink, page, &reply);
     is_noted
 }
@@ -145,7 +147,8 @@ pub fn answer_requests<S: Source, K: Sink, T, A: Responder<T>>(
         let Some(read) = next else {
             return Ok(noted);
         };
-        let is_noted = add_answer(sink, &mut page, responder, state, read);
+        let waits = !lines.holds_line();
+        let is_noted = add_answer(sink, &mut page, responder, state, read, waits);
         if !page.is_sound {
             return Err(ScriptFault::Write);
         }

@@ -20,6 +20,7 @@ mod reply;
 mod request;
 mod scan;
 mod script;
+mod status;
 
 pub use device::{
     DeviceFailed, MemorySink, MemorySource, ReaderSource, Sink, Source, WriterSink, put,

@@ -138,6 +138,11 @@ impl Lines {
         }
     }
 
+    /// Returns whether the bytes that are read ahead have a line feed.
+    pub(crate) fn holds_line(&self) -> bool {
+        feed_at(&self.chunk[self.start..self.end]).is_some()
+    }
+
     /// Takes the next line out of the bytes that are read ahead, if they have its line feed.
     /// Returns whether it has at most 65,536 bytes, which `line` then returns.
     pub(crate) fn held_line(&mut self) -> Option<bool>

@@ -8,7 +8,7 @@ use crate::digits::{MOST_BYTES, put_digits, put_next_number};
 use arrayvec::ArrayVec;
 
 /// Limits the bytes that a page holds.
-const PAGE: usize = 4096;
+const PAGE: usize = 16_384;
 
 /// Holds the bytes of lines that the sink has not yet got, and whether no write has failed.
 ///

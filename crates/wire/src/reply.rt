@@ -2,21 +2,24 @@
 ghost use Rattle.std.specs.Prelude.{◌≡◌, ◌++◌, true, codes, IfErr};
 ghost use Rattle.envelope.specs.LowestTerms.{shown};
 ghost use Rattle.plan.specs.Kinds.{kind_name};
-ghost use Rattle.reference.specs.CallViews.{handed_of};
 ghost use Rattle.reference.specs.FaultTexts.{place_text};
 ghost use Rattle.wire.specs.Devices.{Puts};
 ghost use Rattle.wire.specs.Paged.{Writes};
-ghost use Rattle.wire.specs.Printed.{value_text, after_commas, row_text, rows_text, operator_text};
-ghost use Rattle.wire.specs.Printed.{operators_text, wire_fault_text, line_of, answer_of};
-ghost use Rattle.wire.specs.Printed.{error_line};
+ghost use Rattle.reference.specs.StatusViews.{status_in};
+ghost use Rattle.wire.specs.Printed.{value_text, after_commas, comma_before, row_text, rows_text};
+ghost use Rattle.wire.specs.Printed.{rows, operator_text, operators_text, wire_fault_text, line_of};
+ghost use Rattle.wire.specs.Printed.{answer_of, error_line};
 ghost use Rattle.wire.specs.Script.{done_of};
 
 use crate::device::Sink;
 use crate::fault::ScriptFault;
 use crate::page::Page;
 use crate::request::WireFault;
-use reference::{Fault, Kind, Slope};
-use values::{Row, Value};
+use crate::status::add_status;
+use reference::{AnswerRows, Fault, Kind, Slope, Status};
+use std::ops::Deref;
+use std::sync::Arc;
+use values::Value;
 
 /// Says what a request is answered.
 #[derive(Drop)]
@@ -24,9 +27,13 @@ pub enum Reply {
     /// Says that the call was accepted.
     Done,
     /// Holds a take's answers, each with its instant.
-    Rows(Vec<(i64, Row)>),
+    Rows(AnswerRows),
+    /// Holds answers that someone else keeps too, as a hub's history does.
+    Shared(Arc<AnswerRows>),
     /// Says what each operator of a query does, and its slope.
     Operators(Vec<(Kind, Slope)>),
+    /// Says how far each stream and each undropped query is.
+    Status(Status),
     /// Says that the engine refused the call.
     Refused(Fault),
     /// Says that the line is no request.
@@ -55,37 +62,48 @@ fn add_values<K: Sink>(sink: &mut K, page: &mut Page, values: &[Value])
 }
 
 #[tactic(auto, using(crate::proofs::Printing::writes_both), unfolding(crate::specs::Printed::row_text))]
-fn add_row<K: Sink>(sink: &mut K, page: &mut Page, at: i64, row: &Row)
+fn add_row<K: Sink>(sink: &mut K, page: &mut Page, at: i64, row: &[Value])
     ensures { Writes (K.taken sink.old) (K.failures sink.old) page.old
-        (K.taken sink.new) (K.failures sink.new) page.new (row_text (at, row.now.items)) }
+        (K.taken sink.new) (K.failures sink.new) page.new (row_text (at, row.now)) }
 {
     page.add_byte(sink, b'[');
     page.add_number(sink, at);
-    add_values(sink, page, row.as_slice());
+    add_values(sink, page, row);
     page.add_byte(sink, b']');
 }
 
-#[tactic(auto, using(crate::proofs::Printing::writes_both))]
-fn add_more_rows<K: Sink>(sink: &mut K, page: &mut Page, rows: &[(i64, Row)])
+// Adds the row of a number, after a comma if it is not the first one.
+fn add_numbered_row<K: Sink>(sink: &mut K, page: &mut Page, number: usize, at: i64, row: &[Value])
     ensures { Writes (K.taken sink.old) (K.failures sink.old) page.old
         (K.taken sink.new) (K.failures sink.new) page.new
-        (after_commas row_text (handed_of rows.now)) }
+        (comma_before number ++ row_text (at, row.now)) }
 {
-    for (at, row) in rows {
+    if number > 0 {
         page.add_byte(sink, b',');
-        add_row(sink, page, *at, row);
+    }
+    add_row(sink, page, at, row);
+}
+
+fn add_rows<K: Sink>(sink: &mut K, page: &mut Page, rows: &AnswerRows)
+    ensures { Writes (K.taken sink.old) (K.failures sink.old) page.old
+        (K.taken sink.new) (K.failures sink.new) page.new (rows_text rows.now) }
+{
+    for number in 0..rows.len() {
+        if let Some((at, row)) = rows.get(number) {
+            add_numbered_row(sink, page, number, at, row);
+        }
     }
 }
 
-#[tactic(auto, using(crate::proofs::Printing::writes_both), unfolding(crate::specs::Printed::rows_text))]
-fn add_rows<K: Sink>(sink: &mut K, page: &mut Page, rows: &[(i64, Row)])
+// Adds the line of a take's answers.
+#[tactic(auto, using(crate::proofs::Printing::writes_both), unfolding(crate::specs::Printed::line_of))]
+fn add_taken<K: Sink>(sink: &mut K, page: &mut Page, taken: &AnswerRows)
     ensures { Writes (K.taken sink.old) (K.failures sink.old) page.old
-        (K.taken sink.new) (K.failures sink.new) page.new (rows_text (handed_of rows.now)) }
+        (K.taken sink.new) (K.failures sink.new) page.new (line_of (rows taken.now)) }
 {
-    if let Some(((at, row), more)) = rows.split_first() {
-        add_row(sink, page, *at, row);
-        add_more_rows(sink, page, more);
-    }
+    page.add(sink, b"{\"ok\":true,\"rows\":[");
+    add_rows(sink, page, taken);
+    page.add(sink, b"]}\n");
 }
 
 fn kind_name(kind: Kind) -> &'static str
@@ -199,16 +217,14 @@ pub(crate) fn add_reply<K: Sink>(sink: &mut K, page: &mut Page, reply: &Reply)
 {
     match reply {
         Reply::Done => page.add(sink, b"{\"ok\":true}\n"),
-        Reply::Rows(rows) => {
-            page.add(sink, b"{\"ok\":true,\"rows\":[");
-            add_rows(sink, page, rows);
-            page.add(sink, b"]}\n");
-        }
+        Reply::Rows(rows) => add_taken(sink, page, rows),
+        Reply::Shared(rows) => add_taken(sink, page, rows.deref()),
         Reply::Operators(operators) => {
             page.add(sink, b"{\"ok\":true,\"operators\":[");
             add_operators(sink, page, operators);
             page.add(sink, b"]}\n");
         }
+        Reply::Status(status) => add_status(sink, page, status),
         Reply::Refused(fault) => add_error(sink, page, fault.name(), fault.place()),
         Reply::Unread(fault) => add_error(sink, page, wire_fault_text(fault), None),
     }

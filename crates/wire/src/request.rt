@@ -33,6 +33,11 @@ pub enum Request {
         query: String,
         limit: i64,
     },
+    /// Shows the answers that a take would hand out, and takes none.
+    Peek {
+        query: String,
+        limit: i64,
+    },
     /// Drops a query.
     Drop {
         query: String,
@@ -43,6 +48,8 @@ pub enum Request {
     Plan {
         query: String,
     },
+    /// Says how far each stream and each undropped query is.
+    Status,
 }
 
 /// Says why a line is no request, or why it could not be read.

@@ -261,6 +261,18 @@ fn usual_take(alloc: Global, line: &[u8]) -> Result<Option<Request>, AllocError>
     Ok(Some(Request::Take { query, limit }))
 }
 
+fn usual_peek(alloc: Global, line: &[u8]) -> Result<Option<Request>, AllocError>
+    ensures { IfOk result (λ o. IfSome o
+        (λ r. call_in (json_of line.now) ≡ Ok (call_of r))) }
+{
+    let front = b"{\"op\":\"peek\",\"query\":\"";
+    let Some((query, limit)) = named_number(line, front, b"\",\"limit\":") else {
+        return Ok(None);
+    };
+    let query = String::from_str(alloc, query)?;
+    Ok(Some(Request::Peek { query, limit }))
+}
+
 fn usual_drain(line: &[u8]) -> Option<Request>
     ensures { IfSome result (λ r. call_in (json_of line.now) ≡ Ok (call_of r)) }
 {
@@ -271,9 +283,9 @@ fn usual_drain(line: &[u8]) -> Option<Request>
     }
 }
 
-/// Returns the request that a line is, if it is an append, a heartbeat, a drain or a take as
-/// usually written. That is without blanks, with its keys in the order of the documents, and with
-/// numbers of at most 17 digits. An append has at least one row.
+/// Returns the request that a line is, if it is an append, a heartbeat, a drain, a take or a peek
+/// as usually written. That is without blanks, with its keys in the order of the documents, and
+/// with numbers of at most 17 digits. An append has at least one row.
 ///
 /// # Errors
 /// `AllocError` when out of memory.
@@ -286,6 +298,7 @@ pub(crate) fn usual_request(alloc: Global, line: &[u8]) -> Result<Option<Request
         Some(b'h') => usual_heartbeat(alloc, line),
         Some(b'd') => Ok(usual_drain(line)),
         Some(b't') => usual_take(alloc, line),
+        Some(b'p') => usual_peek(alloc, line),
         _ => Ok(None),
     }
 }

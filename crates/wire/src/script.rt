@@ -6,7 +6,7 @@ ghost use Rattle.wire.specs.Devices.{Rises};
 ghost use Rattle.wire.specs.Held.{ahead, work};
 ghost use Rattle.wire.specs.Paged.{Writes};
 ghost use Rattle.wire.specs.Calls.{Call, append, heartbeat, drain, take_rows, drop_query, forget};
-ghost use Rattle.wire.specs.Calls.{show_plan, call_of};
+ghost use Rattle.wire.specs.Calls.{show_plan, show_status, peek_rows, call_of};
 ghost use Rattle.wire.specs.Printed.{Answer, answer_of, line_of};
 ghost use Rattle.wire.specs.Requests.{BeginsWithRequest, HasNoRequest, Reads, requests_of};
 ghost use Rattle.wire.specs.Script.{answered, is_scarce_answer, is_scarce_reply, script};
@@ -89,7 +89,21 @@ fn take<E: Answering>(engine: &mut E, query: &str, limit: i64) -> Reply
     let Some(number) = engine.query_named(query) else {
         return Reply::Refused(Fault::UnknownQuery);
     };
-    match engine.take(number, limit) {
+    match engine.take_flat(number, limit) {
+        Ok(rows) => Reply::Rows(rows),
+        Err(fault) => Reply::Refused(fault),
+    }
+}
+
+fn peek<E: Answering>(engine: &E, query: &str, limit: i64) -> Reply
+    ensures { E.is_whole engine.now
+        → AnswersCall (E.world engine.now) (peek_rows query.now limit) (answer_of result)
+        (E.world engine.now) }
+{
+    let Some(number) = engine.query_named(query) else {
+        return Reply::Refused(Fault::UnknownQuery);
+    };
+    match engine.peek(number, limit) {
         Ok(rows) => Reply::Rows(rows),
         Err(fault) => Reply::Refused(fault),
     }
@@ -120,12 +134,23 @@ fn show_plan<E: Answering>(engine: &E, query: &str) -> Reply
     }
 }
 
+fn show_status<E: Answering>(engine: &E) -> Reply
+    ensures { E.is_whole engine.now
+        → AnswersCall (E.world engine.now) show_status (answer_of result) (E.world engine.now) }
+{
+    match engine.status() {
+        Ok(status) => Reply::Status(status),
+        Err(fault) => Reply::Refused(fault),
+    }
+}
+
 /// Runs a request on an engine. A drain's turns have at most `rows` rows, 1 to 1,024.
 ///
 /// Answers as the machine does, or says what is scarce. Out of memory replaces only an acceptance
 /// or a fault of a query's text, and never the answer to a drop. Then nothing has changed, except
 /// that a drain may have made some answers wait. Only a drain can run out of numbers for turns:
-/// then the engine has none left. A drain, a take and a `forget` need an engine that is whole.
+/// then the engine has none left. A drain, a take, a peek, a status and a `forget` need an engine
+/// that is whole.
 ///
 /// Forgets rows that no later answer needs, at a `forget` and, if that pays, after a drain. No
 /// later call can distinguish the world from the machine's.
@@ -156,9 +181,11 @@ pub fn answer<E: Answering>(engine: &mut E, request: &Request, rows: u32) -> Rep
         Request::Heartbeat { stream, at } => heartbeat(engine, stream.as_str(), *at),
         Request::Drain => drain(engine, rows),
         Request::Take { query, limit } => take(engine, query.as_str(), *limit),
+        Request::Peek { query, limit } => peek(engine, query.as_str(), *limit),
         Request::Drop { query } => drop_query(engine, query.as_str()),
         Request::Forget => forget(engine),
         Request::Plan { query } => show_plan(engine, query.as_str()),
+        Request::Status => show_status(engine),
     }
 }
 

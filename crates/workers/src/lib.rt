@@ -2,10 +2,12 @@
 #![tactic(auto)]
 
 mod gate;
+mod helper;
 mod pool;
 mod want;
 mod worker;
 
 pub use gate::{Gate, NoGate};
+pub use helper::help;
 pub use pool::{MAX_WORKERS, Pool};
 pub use worker::{bring_back, work};

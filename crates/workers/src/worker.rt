@@ -62,7 +62,7 @@ pub(crate) fn run_to_rest<R: Wait, G: Gate>(
 }
 
 // Runs a turn between the gate's two calls, and brings it back.
-fn run_turn<R: Wait, G: Gate>(
+pub(crate) fn run_turn<R: Wait, G: Gate>(
     rt: &R,
     alloc: Global,
     hub: &Hub,

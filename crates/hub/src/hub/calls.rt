@@ -1,19 +1,20 @@
 //! Answers what clients call, each with its own seat. Each call is one step of `Locked`.
 ghost use Rattle.std.specs.Prelude.{◌≡◌, IfOk, IfErr, string_bytes};
+ghost use Rattle.std.specs.Arc.{arc_value};
 ghost use Rattle.plan.specs.Chart.{given_by};
-ghost use Rattle.reference.specs.CallViews.{texts_of, handed_of};
+ghost use Rattle.reference.specs.CallViews.{texts_of};
 ghost use Rattle.reference.specs.Commands.{Declare, Register, Append, Heartbeat, Take, Drop};
 ghost use Rattle.reference.specs.Replies as replies;
 ghost use Rattle.reference.specs.Replies.{Number, Rows};
-ghost use Rattle.hub.specs.Steps.{PlainLocked, Settles, Spurned, Took};
+ghost use Rattle.hub.specs.Steps.{ForgetsAfter, PlainLocked, Settles, Spurned, Took};
 
 use crate::hub::Hub;
 use crate::seat::Seat;
+use answer_rows::AnswerRows;
 use histories::Receipt;
 use plan::Chart;
 use reference::{Fault, NewRows};
-use std::sync::Wait;
-use values::Row;
+use std::sync::{Arc, Wait};
 
 impl Hub {
     /// Declares a stream, and returns its number.
@@ -108,9 +109,10 @@ impl Hub {
     {
         let mut locked = self.locked.lock(rt);
         let answer = locked.heartbeat(seat, stream, at);
-        drop(locked);
         if answer.is_ok() {
-            self.moved.notify_all();
+            locked.note_change();
+            let wakes = locked.has_ready();
+            self.release(locked, wakes);
         }
         answer
     }
@@ -128,8 +130,8 @@ impl Hub {
         seat: &mut Seat,
         query: u64,
         limit: i64,
-    ) -> Result<(Vec<(i64, Row)>, Receipt), Fault>
-        ensures ok { IfOk result (λ r. (r.1.entry.reply ≡ Rows (handed_of r.0.items))
+    ) -> Result<(Arc<AnswerRows>, Receipt), Fault>
+        ensures ok { IfOk result (λ r. (r.1.entry.reply ≡ Rows (arc_value r.0))
             × Took seat.old (Take query limit) r.1 seat.new) }
         ensures err { IfErr result (λ f. Spurned seat.old (Take query limit) f seat.new) }
     {
@@ -151,23 +153,49 @@ impl Hub {
     {
         let mut locked = self.locked.lock(rt);
         let answer = locked.drop_query(seat, query);
-        drop(locked);
         if answer.is_ok() {
-            self.moved.notify_all();
+            locked.note_change();
+            let wakes = locked.is_movable();
+            self.release(locked, wakes);
         }
         answer
     }
 
     /// Compares the receipts that the seat holds with the history, by value, and lets them go.
     /// Returns `false` if they differ; then nothing has changed. Takes no memory, and looks only at
-    /// the seat's own entries.
+    /// the seat's own entries. Wakes one of the threads that wait if an operator is ready.
     ///
     /// Receipts of entries that an opening replaces are compared by their numbers.
+    ///
+    /// Example: `a_seat_settles` in crates/uses/src/hubs.rt.
     pub fn settle<R: Wait>(&self, rt: &R, seat: &mut Seat) -> bool
         ensures { (old : PlainLocked) × (new : PlainLocked)
             × Settles old seat.old result new seat.new }
     {
+        self.settle_and_forget(rt, seat, 0, true)
+    }
+
+    /// Does what `settle` does, but wakes a thread only if `wakes` says so: if the caller may have
+    /// left work for which nobody was woken. Then, if the seat agreed, does what `forget_if_due`
+    /// does, before other calls get the lock. A forget that ran out of memory is tried again when it
+    /// is due again. With `values` 0 nothing is forgotten.
+    ///
+    /// Example: `a_settle_forgets_if_that_is_due` in crates/uses/src/hubs.rt.
+    pub fn settle_and_forget<R: Wait>(
+        &self,
+        rt: &R,
+        seat: &mut Seat,
+        values: u64,
+        wakes: bool,
+    ) -> bool
+        ensures { (old : PlainLocked) × (settled : PlainLocked) × (new : PlainLocked)
+            × Settles old seat.old result settled seat.new
+            × ForgetsAfter settled result values new }
+    {
         let mut locked = self.locked.lock(rt);
-        locked.settle(seat)
+        let agrees = locked.settle_and_forget(seat, values);
+        let is_wanted = wakes && locked.has_ready();
+        self.release_to_one(locked, is_wanted);
+        agrees
     }
 }

@@ -1,14 +1,24 @@
 //! Shows what anyone may look at. No seat is needed, and nothing changes.
-ghost use Rattle.hub.specs.Steps.{PlainLocked, FindsQuery, FindsStream, SeesPending, SeesSlopes};
-ghost use Rattle.hub.specs.Steps.{SeesWaiting};
+ghost use Rattle.hub.specs.Steps.{PlainLocked, FindsQuery, FindsStream, SeesPeek, SeesPending};
+ghost use Rattle.hub.specs.Steps.{SeesReady, SeesSlopes, SeesStatus, SeesWaiting};
 
 use crate::hub::Hub;
+use answer_rows::AnswerRows;
 use envelope::Slope;
 use plan::Kind;
-use reference::Fault;
+use reference::{Fault, Status};
 use std::sync::Wait;
 
 impl Hub {
+    /// Returns whether an operator may take something.
+    ///
+    /// Example: `anyone_looks_without_a_seat` in crates/uses/src/hubs.rt.
+    pub fn has_ready<R: Wait>(&self, rt: &R) -> bool
+        ensures { (l : PlainLocked) × SeesReady l result }
+    {
+        self.locked.lock(rt).has_ready()
+    }
+
     /// Returns how many answers of the query with this number wait.
     ///
     /// # Errors
@@ -32,6 +42,30 @@ impl Hub {
         ensures { (l : PlainLocked) × SeesPending (λ v. v.items) l query result }
     {
         self.locked.lock(rt).pending(query)
+    }
+
+    /// Says how far each stream and each undropped query is.
+    ///
+    /// # Errors
+    /// `OutOfMemory` when out of memory.
+    ///
+    /// Example: `a_hub_says_how_far_it_is` in crates/uses/src/hubs.rt.
+    pub fn status<R: Wait>(&self, rt: &R) -> Result<Status, Fault>
+        ensures { (l : PlainLocked) × SeesStatus l result }
+    {
+        self.locked.lock(rt).status()
+    }
+
+    /// Returns what `take` would return, and takes nothing: the answers wait on. It makes no entry.
+    ///
+    /// # Errors
+    /// Those of `Answering::take`.
+    ///
+    /// Example: `a_hub_says_how_far_it_is` in crates/uses/src/hubs.rt.
+    pub fn peek<R: Wait>(&self, rt: &R, query: u64, limit: i64) -> Result<AnswerRows, Fault>
+        ensures { (l : PlainLocked) × SeesPeek (λ rows. rows) l query limit result }
+    {
+        self.locked.lock(rt).peek(query, limit)
     }
 
     /// Returns what each operator of the query with this number does, and its slope.

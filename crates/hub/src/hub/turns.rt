@@ -1,7 +1,8 @@
 //! Answers what workers call. They need no seat.
-ghost use Rattle.std.specs.Prelude.{IfErr, IfOk};
-ghost use Rattle.hub.specs.Steps.{PlainLocked, Drains, Ends, Forgets, GivesUp, Hands};
-ghost use Rattle.hub.specs.Steps.{HasEnded, Lends, Rests, Withholds};
+ghost use Rattle.std.specs.Prelude.{◌≡◌, IfErr, IfOk, MatchOption, Ok, false};
+ghost use Rattle.leases.specs.declared.leased.Leased.TheVariants.{Idle};
+ghost use Rattle.hub.specs.Steps.{PlainLocked, Drains, DrainsSome, Ends, Forgets, ForgetsWhenDue};
+ghost use Rattle.hub.specs.Steps.{GivesUp, Hands, HasEnded, IsReady, Lends, Rests, Withholds};
 ghost use Rattle.hub.specs.Tries.{MatchLeaseRest, MatchLeaseWait};
 
 use crate::hub::{Hub, LeaseRest, LeaseWait};
@@ -29,8 +30,9 @@ impl Hub {
     {
         let mut locked = self.locked.lock(rt);
         let answer = locked.finish(done);
-        drop(locked);
-        self.moved.notify_all();
+        locked.note_change();
+        let wakes = locked.is_movable();
+        self.release(locked, wakes);
         answer
     }
 
@@ -42,8 +44,8 @@ impl Hub {
     {
         let mut locked = self.locked.lock(rt);
         let answer = locked.abandon(lease);
-        drop(locked);
-        self.moved.notify_all();
+        let wakes = locked.is_movable();
+        self.release(locked, wakes);
         answer
     }
 
@@ -61,9 +63,56 @@ impl Hub {
     {
         let mut locked = self.locked.lock(rt);
         let answer = locked.drain(rows);
-        drop(locked);
-        self.moved.notify_all();
+        locked.note_change();
+        let wakes = answer.is_err() || locked.has_ready();
+        self.release(locked, wakes);
         answer
+    }
+
+    /// Drains some turns in place, under the lock: at most `turns` turns of at most `rows` rows.
+    /// Returns whether an operator may still take something. Call it until it answers `false`:
+    /// other calls get the lock in between. With `turns` 0 it only looks.
+    ///
+    /// # Errors
+    /// Those of `drain`. `TooManyLeases` and `OutOfMemory` only if an operator may take something
+    /// and fewer than `turns` turns have run.
+    ///
+    /// Example: `a_drain_lets_others_in` in crates/uses/src/hubs.rt.
+    pub fn drain_some<R: Wait>(&self, rt: &R, rows: u32, turns: u64) -> Result<bool, Fault>
+        ensures some { (old : PlainLocked) × (new : PlainLocked)
+            × DrainsSome old rows turns result new }
+        ensures idle { result ≡ Ok false → (l : PlainLocked) × Hands l rows (Ok Idle) l }
+    {
+        let mut locked = self.locked.lock(rt);
+        let answer = locked.drain_some(rows, turns);
+        if answer.is_ok() {
+            locked.note_change();
+        }
+        let wakes = answer.is_err() || locked.has_ready();
+        self.release(locked, wakes);
+        answer
+    }
+
+    /// Does what `drain_some` does, but wakes nobody if more is ready: the caller goes on. A short
+    /// drain is done before another thread would begin.
+    ///
+    /// # Errors
+    /// Those of `drain_some`.
+    ///
+    /// Example: `a_burst_wakes_workers_once` in crates/uses/src/hubs.rt.
+    pub fn drain_some_alone<R: Wait>(&self, rt: &R, rows: u32, turns: u64) -> Result<bool, Fault>
+        ensures some { (old : PlainLocked) × (new : PlainLocked)
+            × DrainsSome old rows turns result new }
+        ensures idle { result ≡ Ok false → (l : PlainLocked) × Hands l rows (Ok Idle) l }
+    {
+        let mut locked = self.locked.lock(rt);
+        let ran = locked.drain_some(rows, turns);
+        if ran.is_ok() {
+            locked.note_change();
+        }
+        let wakes = ran.is_err();
+        self.release(locked, wakes);
+        ran
     }
 
     /// Gives up the rows that no query needs, and all entries: the history starts again with what
@@ -76,7 +125,57 @@ impl Hub {
     pub fn forget<R: Wait>(&self, rt: &R) -> Result<(), Fault>
         ensures { (old : PlainLocked) × (new : PlainLocked) × Forgets old result new }
     {
-        self.locked.lock(rt).forget()
+        let mut locked = self.locked.lock(rt);
+        let answer = locked.forget();
+        if answer.is_ok() {
+            locked.note_change();
+        }
+        let wakes = locked.has_ready();
+        self.release(locked, wakes);
+        answer
+    }
+
+    /// Returns whether it is time to forget, as `Locked::is_due` does.
+    ///
+    /// Example: `a_hub_forgets_by_itself` in crates/uses/src/hubs.rt.
+    pub fn is_due<R: Wait>(&self, rt: &R, values: u64) -> bool
+        ensures never { values ≡ 0 → result ≡ false }
+    {
+        self.locked.lock(rt).is_due(values)
+    }
+
+    /// Forgets if it is time, as `Locked::is_due` says. Returns whether it forgot. Settle your seat
+    /// first: the receipts of what is forgotten are compared only by their numbers.
+    ///
+    /// # Errors
+    /// `OutOfMemory` when out of memory; then nothing has changed.
+    ///
+    /// Example: `a_hub_forgets_by_itself` in crates/uses/src/hubs.rt.
+    pub fn forget_if_due<R: Wait>(&self, rt: &R, values: u64) -> Result<bool, Fault>
+        ensures { (old : PlainLocked) × (new : PlainLocked)
+            × ForgetsWhenDue old values result new }
+    {
+        let mut locked = self.locked.lock(rt);
+        match locked.forget_if_due(values) {
+            Ok(true) => {
+                locked.note_change();
+                let wakes = locked.has_ready();
+                self.release(locked, wakes);
+                Ok(true)
+            }
+            Ok(false) => Ok(false),
+            Err(fault) => Err(fault),
+        }
+    }
+
+    /// Wakes the threads that wait, if an operator may take something. It is for a caller whose
+    /// `heartbeat_named` woke nobody, if no settle comes.
+    ///
+    /// Example: `a_burst_wakes_a_worker_once` in crates/uses/src/hubs.rt.
+    pub fn wake<R: Wait>(&self, rt: &R) {
+        let mut locked = self.locked.lock(rt);
+        let wakes = locked.has_ready();
+        self.release(locked, wakes);
     }
 
     /// Makes `lease_wait` answer `Ended` from here on, also where it waits already.
@@ -85,6 +184,7 @@ impl Hub {
     pub fn end<R: Wait>(&self, rt: &R) {
         let mut locked = self.locked.lock(rt);
         locked.end();
+        locked.note_change();
         drop(locked);
         self.moved.notify_all();
     }
@@ -109,6 +209,44 @@ impl Hub {
                 Waited::Ended => return Ok(LeaseWait::Ended),
                 Waited::Idle => locked = self.moved.wait(rt, locked),
             }
+        }
+        unreachable!()
+    }
+
+    /// Waits until an operator may take something, and returns how many changes there were. Returns
+    /// `None` once the end was called.
+    ///
+    /// Example: `a_worker_waits_for_a_change` in crates/uses/src/hubs.rt.
+    pub fn wait_ready<R: Wait>(&self, rt: &R) -> Option<u64>
+        ensures { MatchOption result
+            ((old : PlainLocked) × (new : PlainLocked) × HasEnded old new)
+            (λ seen. (l : PlainLocked) × IsReady l) }
+    {
+        let mut locked = self.locked.lock(rt);
+        for _ in rt.forever() {
+            if locked.has_ended() {
+                return None;
+            }
+            if locked.has_ready() {
+                return Some(locked.changes());
+            }
+            locked = self.moved.wait(rt, locked);
+        }
+        unreachable!()
+    }
+
+    /// Waits until there were other changes than the first `seen`, or the end was called. It is for
+    /// a thread that could not go on, as when out of memory. It looks each time that it is woken. A
+    /// change after which nothing is ready wakes nobody, so it shows at the next one that does.
+    ///
+    /// Example: `a_worker_waits_for_a_change` in crates/uses/src/hubs.rt.
+    pub fn wait_for_change<R: Wait>(&self, rt: &R, seen: u64) {
+        let mut locked = self.locked.lock(rt);
+        for _ in rt.forever() {
+            if locked.has_ended() || locked.changes() != seen {
+                return;
+            }
+            locked = self.moved.wait(rt, locked);
         }
         unreachable!()
     }

@@ -1,26 +1,25 @@
 //! Answers what clients call. An accepted call is one call on the engine, one entry and one
 //! receipt; a refused one changes nothing.
-ghost use Rattle.std.specs.Prelude.{◌≡◌, ◌≤◌, IfOk, IfErr, [], string_bytes};
-ghost use Rattle.std.specs.Prelude.{vec_capacity};
+ghost use Rattle.std.specs.Prelude.{◌≡◌, ◌≤◌, IfOk, IfErr, string_bytes};
 ghost use Rattle.std.specs.Arc.{arc_value};
 ghost use Rattle.plan.specs.Chart.{given_by};
-ghost use Rattle.reference.specs.CallViews.{texts_of, handed_of};
+ghost use Rattle.reference.specs.CallViews.{texts_of};
 ghost use Rattle.reference.specs.Commands.{Declare, Register, Append, Heartbeat, Take, Drop};
 ghost use Rattle.reference.specs.Replies as replies;
 ghost use Rattle.reference.specs.Replies.{Number, Rows};
 ghost use Rattle.hub.specs.Seats.{reach};
 ghost use Rattle.hub.specs.Steps.{Accepted, Barred, Declined, HasRoom, next_number};
 
-use crate::carry::{carry_out, room_for};
+use crate::carry::carry_out;
 use crate::locked::{Locked, MAX_ENTRIES};
 use crate::seat::Seat;
+use answer_rows::AnswerRows;
 use histories::{Command, CommandKind, Entry, Receipt, Reply, ReplyKind};
 use plan::Chart;
 use reference::{Fault, NewRows};
 use std::alloc::{AllocError, Global};
 use std::ops::Deref;
 use std::sync::Arc;
-use values::Row;
 
 impl Locked {
     /// Declares a stream, and returns its number.
@@ -121,8 +120,8 @@ impl Locked {
         seat: &mut Seat,
         query: u64,
         limit: i64,
-    ) -> Result<(Vec<(i64, Row)>, Receipt), Fault>
-        ensures ok { IfOk result (λ r. (r.1.entry.reply ≡ Rows (handed_of r.0.items))
+    ) -> Result<(Arc<AnswerRows>, Receipt), Fault>
+        ensures ok { IfOk result (λ r. (r.1.entry.reply ≡ Rows (arc_value r.0))
             × Accepted self.old seat.old (Take query limit) r.1 self.new seat.new) }
         ensures err { IfErr result (λ f.
             Declined self.old seat.old (Take query limit) f self.new seat.new) }
@@ -158,22 +157,25 @@ impl Locked {
             Declined self.old seat.old command f self.new seat.new) }
     {
         let number = self.admit(seat)?;
-        let count = room_for(&self.engine, &command);
         let (told_command, logged_command, kept_command) = shared(self.alloc, command)?;
-        let (told_room, logged_room, kept_room) = rooms(self.alloc, count)?;
         self.history.reserve(1)?;
         seat.receipts.reserve(1)?;
         self.ledger.reserve(seat.number)?;
-        let reply = carry_out(&mut self.engine, told_command.deref())?;
-        let logged = Entry::new(seat.number, logged_command, reply.copy_into(logged_room));
+        let (reply, logged_reply, kept_reply, told_reply) = carry_out(
+            &mut self.engine,
+            self.alloc,
+            told_command.deref(),
+        )?;
+        let logged = Entry::new(seat.number, logged_command, logged_reply);
         self.history.push_reserved(logged);
-        let kept = Entry::new(seat.number, kept_command, reply.copy_into(kept_room));
+        let kept = Entry::new(seat.number, kept_command, kept_reply);
         let receipt = Receipt::new(number, kept);
         seat.receipts.push_reserved(receipt);
         seat.own_reach = number + 1;
         self.ledger.note(seat.number, number);
-        let told = Entry::new(seat.number, told_command, reply.copy_into(told_room));
+        let told = Entry::new(seat.number, told_command, told_reply);
         let answer = Receipt::new(number, told);
+        self.measure.add(&answer);
         Ok((reply, answer))
     }
 
@@ -207,21 +209,5 @@ fn shared(
     };
     let second = Arc::try_clone(&first)?;
     let third = Arc::try_clone(&first)?;
-    Ok((first, second, third))
-}
-
-// Makes room for this many answers, for the same three.
-fn rooms(
-    alloc: Global,
-    count: usize,
-) -> Result<(Vec<(i64, Row)>, Vec<(i64, Row)>, Vec<(i64, Row)>), AllocError>
-    ensures empty { IfOk result (λ t.
-        (t.0.items ≡ []) × (t.1.items ≡ []) × (t.2.items ≡ [])) }
-    ensures fits { IfOk result (λ t. (count ≤ vec_capacity t.0) × (count ≤ vec_capacity t.1)
-        × (count ≤ vec_capacity t.2)) }
-{
-    let first = Vec::with_capacity(alloc, count)?;
-    let second = Vec::with_capacity(alloc, count)?;
-    let third = Vec::with_capacity(alloc, count)?;
     Ok((first, second, third))
 }

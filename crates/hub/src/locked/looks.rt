@@ -1,12 +1,13 @@
 //! Shows what anyone may look at. None of it changes anything.
 ghost use Rattle.std.specs.Prelude.{◌≡◌, length};
-ghost use Rattle.hub.specs.Steps.{FindsQuery, FindsStream, SeesPending, SeesSlopes, SeesWaiting};
-ghost use Rattle.hub.specs.Steps.{engine_at};
+ghost use Rattle.hub.specs.Steps.{FindsQuery, FindsStream, SeesPeek, SeesPending, SeesSlopes};
+ghost use Rattle.hub.specs.Steps.{SeesStatus, SeesWaiting, engine_at};
 
 use crate::locked::Locked;
+use answer_rows::AnswerRows;
 use envelope::Slope;
 use plan::Kind;
-use reference::{Answering, Fault};
+use reference::{Answering, Fault, Status};
 
 impl Locked {
     /// Returns how many seats were opened.
@@ -45,6 +46,28 @@ impl Locked {
         ensures { SeesPending (λ v. v.items) self.now query result }
     {
         self.engine.pending(query)
+    }
+
+    /// Says how far each stream and each undropped query is.
+    ///
+    /// # Errors
+    /// `OutOfMemory` when out of memory.
+    #[tactic(auto, unfolding(crate::specs::Steps::engine_at))]
+    pub fn status(&self) -> Result<Status, Fault>
+        ensures { SeesStatus self.now result }
+    {
+        self.engine.status()
+    }
+
+    /// Returns what `take` would return, and takes nothing.
+    ///
+    /// # Errors
+    /// Those of `Answering::take`.
+    #[tactic(auto, unfolding(crate::specs::Steps::engine_at))]
+    pub fn peek(&self, query: u64, limit: i64) -> Result<AnswerRows, Fault>
+        ensures { SeesPeek (λ rows. rows) self.now query limit result }
+    {
+        self.engine.peek(query, limit)
     }
 
     /// Returns what each operator of the query with this number does, and its slope.

@@ -1,5 +1,5 @@
 //! Settles a seat: its receipts are compared with the history, and let go.
-ghost use Rattle.hub.specs.Steps.{Settles};
+ghost use Rattle.hub.specs.Steps.{ForgetsAfter, PlainLocked, Settles};
 
 use crate::audit::agrees;
 use crate::locked::Locked;
@@ -29,6 +29,20 @@ impl Locked {
             .settle(self.alloc, seat.number, settled, count, by_number);
         seat.receipts = Vec::new(self.alloc);
         seat.settled = settled;
+        true
+    }
+
+    /// Does what `settle` does, and then, if the seat agreed, what `forget_if_due` does. A forget
+    /// that ran out of memory is tried again when it is due again.
+    pub fn settle_and_forget(&mut self, seat: &mut Seat, values: u64) -> bool
+        ensures { (settled : PlainLocked) × Settles self.old seat.old result settled seat.new
+            × ForgetsAfter settled result values self.new }
+    {
+        if !self.settle(seat) {
+            return false;
+        }
+        self.note_change();
+        let _ = self.forget_if_due(values);
         true
     }
 }

@@ -1,7 +1,8 @@
 //! Answers what workers call. None of it changes the history.
-ghost use Rattle.std.specs.Prelude.{◌≡◌, ◌<◌, IfOk, IfErr, length, false};
-ghost use Rattle.hub.specs.Steps.{Drains, Ends, GivesUp, Hands, HasEnded, IsIdle, Lends};
-ghost use Rattle.hub.specs.Steps.{Rests, Withholds, ended, engine_at, with_engine};
+ghost use Rattle.std.specs.Prelude.{◌≡◌, ◌<◌, IfOk, IfErr, IsTrue, length, false};
+ghost use Rattle.hub.specs.Steps.{Drains, DrainsSome, Ends, GivesUp, Hands, HasEnded, IsIdle};
+ghost use Rattle.hub.specs.Steps.{IsSame, Lends, Rests, SeesReady, Withholds, ended, engine_at};
+ghost use Rattle.hub.specs.Steps.{with_engine};
 ghost use Rattle.hub.specs.Tries.{MatchRested, MatchWaited};
 
 use crate::locked::{Locked, Rested, Waited};
@@ -51,6 +52,68 @@ impl Locked {
         ensures drains { Drains self.old rows result self.new }
     {
         self.engine.drain(rows)
+    }
+
+    /// Drains some turns in place, as `Engine::drain_some` does: at most `turns` turns of at most
+    /// `rows` rows. Returns whether an operator may still take something. Turns that are out stay
+    /// out. With `turns` 0 it only looks.
+    ///
+    /// # Errors
+    /// Those of `drain`. `TooManyLeases` and `OutOfMemory` only if an operator may take something
+    /// and fewer than `turns` turns have run.
+    #[tactic(auto, unfolding(crate::specs::Steps::engine_at))]
+    pub fn drain_some(&mut self, rows: u32, turns: u64) -> Result<bool, Fault>
+        ensures step { self.new ≡ with_engine self.old self.new.engine }
+        ensures drains { DrainsSome self.old rows turns result self.new }
+    {
+        self.engine.drain_some(rows, turns)
+    }
+
+    /// Returns whether an operator may take something. Takes no memory.
+    #[tactic(auto, unfolding(crate::specs::Steps::engine_at), using(crate::proofs::ReadyLemmas::none_ready, crate::proofs::ReadyLemmas::no_fault))]
+    pub fn has_ready(&mut self) -> bool
+        ensures same { IsSame self.old self.new }
+        ensures ready { SeesReady self.old result }
+    {
+        match self.engine.drain_some(1, 0) {
+            Ok(true) => true,
+            Ok(false) => false,
+            Err(_) => unreachable!(),
+        }
+    }
+
+    // Returns whether threads that wait for a turn, or for rest, may go on.
+    #[tactic(auto, unfolding(crate::specs::Steps::engine_at))]
+    pub(crate) fn is_movable(&mut self) -> bool
+        ensures { IsSame self.old self.new }
+    {
+        if self.engine.leases_out() == 0 {
+            return true;
+        }
+        self.has_ready()
+    }
+
+    // Notes a step that may let a thread go on that could not.
+    pub(crate) fn note_change(&mut self)
+        ensures { self.new ≡ self.old }
+    {
+        self.changes = self.changes.wrapping_add(1);
+    }
+
+    /// Returns how many changes there were that may let a thread go on. These are heartbeats,
+    /// dropped queries, finishes, drains (of `drain_some` those that did not fail), forgets,
+    /// settled seats, and the end. Giving up a turn is none: a thread that gave it up when out of
+    /// memory would only run out of memory again.
+    pub fn changes(&self) -> u64 {
+        self.changes
+    }
+
+    /// Returns whether the end was called.
+    #[tactic(auto, unfolding(crate::specs::Steps::engine_at))]
+    pub fn has_ended(&self) -> bool
+        ensures { IsTrue result → HasEnded self.now self.now }
+    {
+        self.has_ended
     }
 
     /// Makes `lease_wait` answer `Ended` from here on.

@@ -6,26 +6,30 @@ ghost use Rattle.plan.specs.Chart.{given_by};
 ghost use Rattle.reference.specs.Alike.{Alike};
 ghost use Rattle.reference.specs.CallViews.{handed_of, texts_of};
 ghost use Rattle.reference.specs.Steps.{AreNext};
-ghost use Rattle.reference.specs.World.{Does, Drains, IsPlenty, append_step, declare_step};
-ghost use Rattle.reference.specs.World.{drain_step, drop_step, heartbeat_step, register_step};
-ghost use Rattle.reference.specs.World.{take_step};
+ghost use Rattle.reference.specs.Status.{status_of};
+ghost use Rattle.reference.specs.StatusViews.{status_in};
+ghost use Rattle.reference.specs.World.{Does, Drains, IsPlenty, Looks, append_step, declare_step};
+ghost use Rattle.reference.specs.World.{drain_step, drop_step, heartbeat_step, peek_at};
+ghost use Rattle.reference.specs.World.{register_step, take_step};
 ghost use Rattle.reference.specs.declared.fault.Fault.TheVariants.{OutOfMemory, TooManyLeases};
 ghost use Rattle.stream_store.specs.Closing.{QueuesGain};
 ghost use Rattle.run_queue.specs.Slots.{first_of};
 ghost use Rattle.laws_engine.specs.Calls.{appended, declared, dropped, heartbeat_taken};
 ghost use Rattle.laws_engine.specs.Openings.{forgotten};
-ghost use Rattle.laws_engine.specs.Promises.{HasAllWaiting, KeepsItsPromises};
+ghost use Rattle.laws_engine.specs.Promises.{AreCompleteUpto, HasAllWaiting, KeepsItsPromises};
 ghost use Rattle.leases.specs.Drains.{LeavesOthers, RunsTurns};
+ghost use Rattle.leases.specs.Looks.{status_in_engine};
 ghost use Rattle.leases.specs.Queues.{LeavesQueues, LengthensQueues};
 ghost use Rattle.leases.specs.Registering.{Registers};
 ghost use Rattle.leases.specs.Shown.{engine_in, world_in};
-ghost use Rattle.leases.specs.Takes.{Takes};
+ghost use Rattle.leases.specs.Takes.{Peeks, Takes};
 ghost use Rattle.leases.specs.Whole.{HasNumbers, IsWhole};
 
 use crate::engine::Engine;
+use answer_rows::AnswerRows;
 use envelope::Slope;
 use plan::{Chart, Kind};
-use reference::{Answering, Fault, NewRows, query_place};
+use reference::{Answering, Fault, NewRows, Status, query_place};
 use values::Row;
 
 impl Answering for Engine {
@@ -131,6 +135,40 @@ impl Answering for Engine {
         ensures promises { KeepsItsPromises (engine_in self.new) }
     {
         self.state.take(query, limit)
+    }
+
+    fn take_flat(&mut self, query: u64, limit: i64) -> Result<AnswerRows, Fault>
+        ensures does { IsWhole self.old
+            → Does (λ rows. rows) (world_in self.old)
+            (take_step (world_in self.old) query limit) result (world_in self.new) }
+        ensures whole { IsWhole self.old → IsWhole self.new }
+        ensures spent { HasNumbers self.new → HasNumbers self.old }
+        ensures next { IfOk result (AreNext (world_in self.old).machine query limit) }
+        ensures takes { Takes (λ rows. rows) (engine_in self.old) query limit result
+            (engine_in self.new) }
+        ensures promises { KeepsItsPromises (engine_in self.new) }
+    {
+        self.state.take_flat(query, limit)
+    }
+
+    fn peek(&self, query: u64, limit: i64) -> Result<AnswerRows, Fault>
+        ensures looks { IsWhole self.now
+            → Looks (λ rows. rows) (peek_at (world_in self.now) query limit) result }
+        ensures next { IfOk result (AreNext (world_in self.now).machine query limit) }
+        ensures peeks { Peeks (λ rows. rows) (engine_in self.now) query limit result }
+    {
+        self.state.peek(query, limit)
+    }
+
+    fn status(&self) -> Result<Status, Fault>
+        ensures is { IsWhole self.now
+            → IfOk result (λ s. status_in s ≡ status_of (world_in self.now)) }
+        ensures want { IfErr result (λ fault. fault ≡ OutOfMemory) }
+        ensures engine { IfOk result (λ s.
+            status_in s ≡ status_in_engine (engine_in self.now)) }
+        ensures upto { AreCompleteUpto (engine_in self.now) }
+    {
+        Ok(self.state.status()?)
     }
 
     fn drop_query(&mut self, query: u64) -> Result<(), Fault>

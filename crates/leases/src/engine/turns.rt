@@ -79,7 +79,8 @@ impl Engine {
 
     /// Runs at most `turns` turns in place, one after the other, as `drain` does. Returns whether
     /// an operator may still take something: if so, all `turns` turns have run, each with one
-    /// number. `rows` limits the rows of each turn: 1 to 1,024.
+    /// number. A query that passes instants at which it has nothing to do counts as one turn.
+    /// `rows` limits the rows of each turn: 1 to 1,024.
     ///
     /// Call it until it answers `false`, and let others have the engine in between. With `turns` 0
     /// it only looks. It costs as much as the turns that run.

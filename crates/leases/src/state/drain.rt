@@ -1,6 +1,6 @@
 //! Drains: runs turns in place until nothing is ready, or so many have run.
 ghost use Rattle.std.specs.Prelude.{◌≡◌, ◌≢◌, ◌↔◌, ◌<◌, ◌≤◌, ◌+◌, Err, IfErr, IfOk, IsTrue, None};
-ghost use Rattle.std.specs.Prelude.{Ok, OnErr, OnOk, Some, false, true};
+ghost use Rattle.std.specs.Prelude.{MatchOption, Ok, OnErr, OnOk, Some, false, true};
 ghost use Rattle.reference.specs.World.{drain_fault};
 ghost use Rattle.reference.specs.declared.fault.Fault.TheVariants.{BadLimit, OutOfMemory};
 ghost use Rattle.reference.specs.declared.fault.Fault.TheVariants.{TooManyLeases};
@@ -12,8 +12,8 @@ ghost use Rattle.leases.specs.Asked.{HasOperatorAt};
 ghost use Rattle.leases.specs.Drains.{HasWantedBehind, LeavesOthers, OneOrMoreHaveRun, RunsFirst};
 ghost use Rattle.leases.specs.Drains.{RunsTurns, as_drained};
 ghost use Rattle.leases.specs.Readers.{next_for, with_slots, with_update};
-ghost use Rattle.leases.specs.Runs.{HasRunIn, HasRunOn, HasStoppedIn, HasStoppedOn, MayRunIn};
-ghost use Rattle.leases.specs.Runs.{MayRunOn};
+ghost use Rattle.leases.specs.Runs.{HasLast, HasRunIn, HasRunOn, HasStoppedIn, HasStoppedOn};
+ghost use Rattle.leases.specs.Runs.{MayRunIn, MayRunOn};
 ghost use Rattle.leases.specs.Shown.{engine_in};
 ghost use Rattle.leases.specs.Sound.{IsSound};
 ghost use Rattle.leases.specs.Told.{GoesOn, IsNoSteeper, MayTellBoth, told, told_state};
@@ -24,6 +24,7 @@ ghost use Rattle.leases.specs.Whole.{IsWhole};
 use crate::limits::LEASE_NUMBERS;
 use crate::remains::Remains;
 use crate::state::State;
+use crate::state::status::reach_of;
 use column::Side;
 use operators::Refused;
 use reference::{Fault, turn_fault};
@@ -57,8 +58,9 @@ impl State {
         ensures whole { IsWhole self.old → result ≢ Err OutOfMemory → IsWhole self.new }
         ensures sound { IsSound self.new }
     {
+        let mut settled = true;
         'turns: loop {
-            if !self.run_first(rows, LEASE_NUMBERS)? {
+            if !self.run_first(rows, LEASE_NUMBERS, &mut settled)? {
                 return Ok(());
             }
         }
@@ -107,8 +109,9 @@ impl State {
         ensures whole { IsWhole self.old → result ≢ Err OutOfMemory → IsWhole self.new }
         ensures sound { IsSound self.new }
     {
+        let mut settled = true;
         'turns: while self.next < until {
-            if !self.run_first(rows, until.min(LEASE_NUMBERS))? {
+            if !self.run_first(rows, until.min(LEASE_NUMBERS), &mut settled)? {
                 return Ok(false);
             }
         }
@@ -116,8 +119,14 @@ impl State {
     }
 
     /// Runs turns of at most `rows` rows of an operator of greatest slope, with numbers below
-    /// `until`, if any may take something. Returns whether any might.
-    fn run_first(&mut self, rows: u32, until: u64) -> Result<bool, Fault>
+    /// `until`, if any may take something. If its query has nothing to do at more than a few
+    /// instants, it passes these instead. Returns whether any might take something.
+    ///
+    /// `settled` says whether a root ran last, or nothing yet. If another operator did, something
+    /// waits for the one above it as a rule, and then no pass is tried.
+    #[inline(always)]
+    #[tactic(auto, using(crate::proofs::DrainLemmas::pass_runs))]
+    fn run_first(&mut self, rows: u32, until: u64, settled: &mut bool) -> Result<bool, Fault>
         requires sound { IsSound self.old }
         requires accepted { drain_fault rows ≡ None }
         requires few { until ≤ LEASE_NUMBERS }
@@ -128,7 +137,10 @@ impl State {
     {
         match self.next_slot()? {
             Some(slot) => {
-                self.run_slot(&slot, rows as usize, until)?;
+                if *settled && self.passes(&slot) {
+                    return Ok(true);
+                }
+                *settled = self.run_slot(&slot, rows as usize, until)?;
                 Ok(true)
             },
             None => Ok(false),
@@ -136,12 +148,12 @@ impl State {
     }
 
     /// Runs turns of the first slot in place, with the next numbers, below `until`. Nobody can see
-    /// the turns meanwhile, so none is made.
+    /// the turns meanwhile, so none is made. Returns whether they were of a root.
     ///
     /// # Errors
     /// `AllocError` when out of memory. The turns before stay. The turn that needed the memory did
     /// nothing, or it broke its query. The error does not say which: the query shows it.
-    fn run_slot(&mut self, slot: &Slot, rows: usize, until: u64) -> Result<(), AllocError>
+    fn run_slot(&mut self, slot: &Slot, rows: usize, until: u64) -> Result<bool, AllocError>
         requires sound { IsSound self.old }
         requires first { first_of self.old.slots ≡ Some slot.now }
         requires some { 0 < rows }
@@ -157,7 +169,7 @@ impl State {
         let above = self.above(slot.query(), slot.operator());
         let next = self.run_while_first(slot, &above, rows, until)?;
         self.update_slots(slot, next, &above);
-        Ok(())
+        Ok(above.is_none())
     }
 
     /// Runs turns of the first slot, one after the other, and changes no slot meanwhile. Returns
@@ -200,6 +212,7 @@ impl State {
         let operator = slot.operator();
         let stays = goes_before(slot, above);
         let mut turn = *slot;
+        let mut last = self.last_tick(slot);
         'turns: loop {
             let lease = self.next;
             match self.run_query(&turn, rows) {
@@ -211,7 +224,8 @@ impl State {
                 },
                 Err(Refused::Within) => {
                     self.next = lease + 1;
-                    self.break_query(query);
+                    let reach = reach_of(&self.registered[query as usize], last);
+                    self.break_query(query, reach);
                     return Err(AllocError);
                 },
             }
@@ -220,6 +234,29 @@ impl State {
                 return Ok(next);
             }
             turn = slot.with_next(next);
+            last = self.last_behind(slot, above, last);
+        }
+    }
+
+    /// Returns the instant of the last tick that the root of the slot's query has taken.
+    fn last_tick(&self, slot: &Slot) -> Option<u64>
+        requires { HasOperatorAt (engine_in self.now) slot.now.query slot.now.operator }
+        ensures { HasLast (engine_in self.now) slot.now.query result }
+    {
+        self.running(slot.query()).last_tick()
+    }
+
+    /// Does so after a turn of the slot's operator, before which it was `last`. Only the root's
+    /// turns change it, and nothing is above the root.
+    #[inline(always)]
+    fn last_behind(&self, slot: &Slot, above: &Option<Slot>, last: Option<u64>) -> Option<u64>
+        requires { HasOperatorAt (engine_in self.now) slot.now.query slot.now.operator }
+        ensures { MatchOption above.now (HasLast (engine_in self.now) slot.now.query result)
+            (λ a. result ≡ last) }
+    {
+        match above {
+            Some(_) => last,
+            None => self.last_tick(slot),
         }
     }
 

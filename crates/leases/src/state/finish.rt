@@ -7,15 +7,17 @@ ghost use Rattle.reference.specs.declared.fault.Fault.TheVariants.{OutOfMemory};
 ghost use Rattle.laws_queries.specs.Queries.{PlainQuery};
 ghost use Rattle.laws_engine.specs.Engines.{Broken, Running};
 ghost use Rattle.leases.specs.Applied.{Forgets, GivesNothing, HasApplied, HasEnded};
-ghost use Rattle.leases.specs.Applied.{HasWiredOperators, IsAbove, IsApplied, IsBroken, IsOutIn};
-ghost use Rattle.leases.specs.Applied.{IsTurn, MayApply, MayApplyIn};
+ghost use Rattle.leases.specs.Applied.{HasWiredOperators, IsAbove, IsApplied, IsBroken};
+ghost use Rattle.leases.specs.Applied.{IsBrokenAt, IsOutIn, IsTurn, MayApply, MayApplyIn};
 ghost use Rattle.leases.specs.Asked.{HasOperatorAt, IsRunningAt};
+ghost use Rattle.leases.specs.Forgets.{AreMarkable};
 ghost use Rattle.leases.specs.Shown.{engine_in};
 ghost use Rattle.leases.specs.Sound.{IsSound};
 ghost use Rattle.leases.specs.Told.{MayTellBoth};
 ghost use Rattle.leases.specs.Turns.{Finishes};
 ghost use Rattle.leases.specs.Views.{remains_of};
 
+use crate::reach::Reach;
 use crate::remains::Remains;
 use crate::state::State;
 use reference::Fault;
@@ -96,7 +98,8 @@ impl State {
     /// # Errors
     /// `AllocError` when out of memory; then the query is broken.
     pub(crate) fn apply(&mut self, parts: Parts) -> Result<(), AllocError>
-        requires { MayApplyIn (engine_in self.old) parts }
+        requires may { MayApplyIn (engine_in self.old) parts }
+        requires markable { AreMarkable self.old.registered.items self.old.remains.items }
         ensures ok { OnOk result (HasApplied (engine_in self.old) parts (engine_in self.new)) }
         ensures err { OnErr result
             (IsBroken (engine_in self.old) parts.node.query (engine_in self.new)) }
@@ -104,10 +107,11 @@ impl State {
         ensures forgets { OnErr result (Forgets parts.node.query self.old self.new) }
     {
         let query = parts.node.query;
+        let reach = self.reach(query);
         match take_turn(&mut self.remains[query as usize], &self.streams, parts) {
             Ok(()) => Ok(()),
             Err(error) => {
-                self.break_query(query);
+                self.break_query(query, reach);
                 Err(error)
             },
         }
@@ -126,13 +130,13 @@ impl State {
     }
 
     /// Breaks the query: its turns end, its slots and windows leave, and its waiting answers can
-    /// still be taken. Takes no memory.
-    pub(crate) fn break_query(&mut self, query: u64)
+    /// still be taken. They reach as far as `reach` says. Takes no memory.
+    pub(crate) fn break_query(&mut self, query: u64, reach: Reach)
         requires { IsRunningAt (engine_in self.old) query }
-        ensures engine { IsBroken (engine_in self.old) query (engine_in self.new) }
+        ensures engine { IsBrokenAt (engine_in self.old) query reach.next (engine_in self.new) }
         ensures forgets { Forgets query self.old self.new }
     {
-        self.remains[query as usize].give_up();
+        self.remains[query as usize].give_up(reach);
         self.stop(query);
     }
 }

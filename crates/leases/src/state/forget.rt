@@ -1,5 +1,5 @@
 //! Gives up the rows that no query needs any longer.
-ghost use Rattle.std.specs.Prelude.{◌≡◌, ◌⊎◌, ◌++◌, ◌+◌, ◌≤◌, IfOk, OnErr, OnOk, Some, length};
+ghost use Rattle.std.specs.Prelude.{◌≡◌, ◌⊎◌, ◌++◌, ◌+◌, ◌≤◌, IfOk, OnErr, OnOk, Some};
 ghost use Rattle.std.specs.Prelude.{ℕ, Bool, map, max, slice_get};
 ghost use Rattle.std.specs.List.{range_with_len};
 ghost use Rattle.values.specs.Row.{value_at};
@@ -11,6 +11,7 @@ ghost use Rattle.stream_store.specs.Closing.{closed_of};
 ghost use Rattle.needed_rows.specs.Needed.{is_needed_by_some, lists, readers_in};
 ghost use Rattle.needed_rows.specs.Queries.{readers_of};
 ghost use Rattle.laws_dataflow.specs.Queries.{behind};
+ghost use Rattle.laws_engine.specs.Engines.{answers_in};
 ghost use Rattle.laws_engine.specs.Openings.{forgotten, mark_in};
 ghost use Rattle.leases.specs.Forgets.{AreMarkable, AreReadIn, IsMarkable, IsReadLog, IsSaid};
 ghost use Rattle.leases.specs.Forgets.{Says, earlier_in, going_in, needs_in, restarted_by};
@@ -25,9 +26,9 @@ use crate::registered::Registration;
 use crate::remains::Remains;
 use crate::state::State;
 use needed_rows::{ClosedRows, Reader, needed};
-use query_runtime::WaitingAnswers;
 use std::alloc::{AllocError, Global};
 use std::ops::Deref;
+use std::snapshot::Snapshot;
 use stream_store::{Log, Start, Streams};
 use values::{Value, Window};
 
@@ -58,8 +59,8 @@ impl State {
     /// Gives up the rows that no query needs. Each query goes on from the instant after its mark;
     /// what it answers then follows the waiting answers.
     ///
-    /// It costs the rows that are held times the windows over their streams, plus the waiting
-    /// answers, plus the queries that were registered.
+    /// It costs the rows that are held times the windows over their streams, plus the queries that
+    /// were registered. Waiting answers stay where they are.
     ///
     /// # Errors
     /// `AllocError` when out of memory; then nothing has changed.
@@ -70,17 +71,15 @@ impl State {
         ensures sound { IsSound self.new }
     {
         let kept = self.kept_rows()?;
-        let waiting = waiting_of(self.alloc, &self.remains)?;
         keep_rows(&mut self.streams, &kept);
-        restart(&mut self.registered, &self.remains, waiting);
+        restart(&mut self.registered, &self.remains);
         self.count_left();
         Ok(())
     }
 
-    /// Forgets if more is stored than twice what the last time left, and 1,024 rows. Copies of
-    /// waiting answers and registered queries count too. So the cost of all forgettings together is
-    /// in proportion to what came and was given. If it runs out of memory, it puts the next time
-    /// off as if all had stayed.
+    /// Forgets if more is stored than twice what the last time left, and 1,024 rows. Registered
+    /// queries count too. So the cost of all forgettings together is in proportion to what came and
+    /// was registered. If it runs out of memory, it puts the next time off as if all had stayed.
     pub(crate) fn tidy(&mut self)
         requires { IsSound self.old }
         ensures forgotten { (engine_in self.new ≡ engine_in self.old)
@@ -101,8 +100,8 @@ impl State {
         self.stored = self.stored.saturating_add(rows);
     }
 
-    /// Counts what a forgetting left and walked over: the rows of all streams, the answers that it
-    /// copied, and the queries that were ever registered.
+    /// Counts what a forgetting left and walked over: the rows of all streams, and the queries that
+    /// were ever registered.
     fn count_left(&mut self)
         ensures { self.new ≡ record self.old { stored = self.new.stored; left = self.new.left } }
     {
@@ -110,9 +109,6 @@ impl State {
         for stream in 0..self.streams.len() {
             let rows = self.streams.kept(stream as u64).unwrap_or(0);
             left = left.saturating_add(rows as u64);
-        }
-        for query in &self.registered {
-            left = left.saturating_add(query.earlier.len() as u64);
         }
         self.stored = left;
         self.left = left;
@@ -143,13 +139,13 @@ fn next_of(query: &Registration, remains: &Remains) -> Option<u64>
 {
     match remains {
         Remains::Running(running) => Some(next_behind(query.first, running.last_tick())),
-        Remains::Broken(_) => None,
+        Remains::Broken(_, _) => None,
         Remains::Dropped => None,
     }
 }
 
 /// Returns the instant after the last tick, or the first instant if there was none.
-fn next_behind(first: u64, last: Option<u64>) -> u64
+pub(crate) fn next_behind(first: u64, last: Option<u64>) -> u64
     requires { (at : ℕ) → last ≡ Some at → at + 1 ≤ max first all_instants }
     ensures { result ≡ behind first last }
 {
@@ -302,44 +298,26 @@ fn keep_rows(streams: &mut Streams, kept: &[KeptRows])
     }
 }
 
-/// Copies the waiting answers, by the queries' numbers.
-pub(crate) fn waiting_of(
-    alloc: Global,
-    remains: &[Remains],
-) -> Result<Vec<WaitingAnswers>, AllocError>
-    ensures { IfOk result (λ v. v.items ≡ earlier_in remains.now) }
-{
-    let mut waiting = Vec::with_capacity(alloc, remains.len())?;
-    for it in remains {
-        waiting.push(it.waiting_copy(alloc)?)?;
-    }
-    Ok(waiting)
-}
-
 /// Makes each query go on from the instant after its mark; what it answers then follows the waiting
 /// answers. Takes no memory.
-pub(crate) fn restart(
-    registered: &mut [Registration],
-    remains: &[Remains],
-    waiting: Vec<WaitingAnswers>,
-)
-    requires marks { AreMarkable registered.old remains.now }
-    requires many { length waiting.items ≡ length registered.old }
+pub(crate) fn restart(registered: &mut [Registration], remains: &[Remains])
+    requires { AreMarkable registered.old remains.now }
     ensures { map query_of registered.new
-        ≡ restarted_by registered.old remains.now waiting.items }
+        ≡ restarted_by registered.old remains.now (earlier_in remains.now) }
 {
-    for (query, earlier) in waiting.into_iter().enumerate() {
-        let next = next_of(&registered[query], &remains[query]);
-        restart_one(&mut registered[query], next, earlier);
+    for (query, left) in remains.iter().enumerate() {
+        let next = next_of(&registered[query], left);
+        restart_one(&mut registered[query], next, left);
     }
 }
 
 /// Makes the query go on from the instant after its mark, or after all instants if it has none.
 /// What it answers then follows the waiting answers.
-fn restart_one(query: &mut Registration, next: Option<u64>, earlier: WaitingAnswers)
-    ensures { query_of query.new ≡ restart (query_of query.old) next earlier }
+fn restart_one(query: &mut Registration, next: Option<u64>, remains: &Remains)
+    ensures { query_of query.new
+        ≡ restart (query_of query.old) next (answers_in (remains_of remains.now)) }
 {
     query.start = next.unwrap_or(ALL_INSTANTS);
-    query.earlier = earlier;
+    query.before = Snapshot::of(remains);
     query.taken = 0;
 }

@@ -89,7 +89,7 @@ impl State {
     }
 
     /// Gives each of the slots what its operator may take next, one after the other.
-    fn change_slots(&mut self, slots: &[Slot])
+    pub(crate) fn change_slots(&mut self, slots: &[Slot])
         requires { AllByRecursion (λ s.
             HasOperatorAt (engine_in self.old) s.query s.operator) slots.now }
         ensures { self.new

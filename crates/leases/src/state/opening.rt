@@ -1,9 +1,10 @@
 //! Copies what a forgetting leaves.
-ghost use Rattle.std.specs.Prelude.{◌≡◌, ℕ, Bool, IfOk, length, map};
+ghost use Rattle.std.specs.Prelude.{◌≡◌, ℕ, Bool, IfOk, map};
 ghost use Rattle.values.specs.Window.{Element};
 ghost use Rattle.reference.specs.Opening.{with_kept};
 ghost use Rattle.laws_engine.specs.Openings.{forgotten};
-ghost use Rattle.leases.specs.Forgets.{AreMarkable, IsSaid, Says, restarted_by, without_earlier};
+ghost use Rattle.leases.specs.Forgets.{AreMarkable, IsSaid, Says, earlier_in, restarted_by};
+ghost use Rattle.leases.specs.Forgets.{without_earlier};
 ghost use Rattle.leases.specs.Openings.{opening_in};
 ghost use Rattle.leases.specs.Shown.{engine_in};
 ghost use Rattle.leases.specs.Sound.{IsSound};
@@ -13,10 +14,11 @@ use crate::opening::Opening;
 use crate::registered::{Place, Registration};
 use crate::remains::Remains;
 use crate::state::State;
-use crate::state::forget::{KeptRows, restart, waiting_of};
+use crate::state::forget::{KeptRows, restart};
 use envelope::Slope;
 use query_runtime::WaitingAnswers;
 use std::alloc::{AllocError, Global};
+use std::snapshot::Snapshot;
 use std::sync::Arc;
 use stream_store::{Stored, Streams};
 
@@ -33,8 +35,8 @@ impl State {
         let kept = self.kept_rows()?;
         let streams = copies_of(self.alloc, &self.streams, &kept)?;
         let waiting = waiting_of(self.alloc, &self.remains)?;
-        let registered = restarted_copies(self.alloc, &self.registered, &self.remains, waiting)?;
-        Ok(Opening::of(streams, registered))
+        let registered = restarted_copies(self.alloc, &self.registered, &self.remains)?;
+        Ok(Opening::of(streams, registered, waiting))
     }
 }
 
@@ -57,16 +59,25 @@ fn restarted_copies(
     alloc: Global,
     registered: &[Registration],
     remains: &[Remains],
-    waiting: Vec<WaitingAnswers>,
 ) -> Result<Vec<Registration>, AllocError>
-    requires marks { AreMarkable registered.now remains.now }
-    requires many { length waiting.items ≡ length registered.now }
+    requires { AreMarkable registered.now remains.now }
     ensures { IfOk result (λ v. map query_of v.items
-        ≡ restarted_by registered.now remains.now waiting.items) }
+        ≡ restarted_by registered.now remains.now (earlier_in remains.now)) }
 {
     let mut copies = bare_copies(alloc, registered)?;
-    restart(&mut copies, remains, waiting);
+    restart(&mut copies, remains);
     Ok(copies)
+}
+
+/// Copies the waiting answers, by the queries' numbers.
+fn waiting_of(alloc: Global, remains: &[Remains]) -> Result<Vec<WaitingAnswers>, AllocError>
+    ensures { IfOk result (λ v. v.items ≡ earlier_in remains.now) }
+{
+    let mut waiting = Vec::with_capacity(alloc, remains.len())?;
+    for it in remains {
+        waiting.push(it.waiting_copy(alloc)?)?;
+    }
+    Ok(waiting)
 }
 
 /// Copies the queries without their earlier answers.
@@ -95,8 +106,9 @@ fn bare_copy(alloc: Global, query: &Registration) -> Result<Registration, AllocE
         places,
         first: query.first,
         start: query.start,
-        earlier: WaitingAnswers::new(alloc),
+        before: Snapshot::of(&Remains::Dropped),
         taken: query.taken,
+        ever_taken: query.ever_taken,
         is_dropped: query.is_dropped,
     })
 }

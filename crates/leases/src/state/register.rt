@@ -1,4 +1,5 @@
 //! Registers queries.
+ghost use Rattle.reference.specs.Opening.{all_instants};
 ghost use Rattle.std.specs.Prelude.{◌≡◌, ◌<◌, ◌≤◌, ◌+◌, ◌++◌, ℕ, false, [], IfOk};
 ghost use Rattle.std.specs.Prelude.{IfSome, None, OnErr, OnOk, length, map};
 ghost use Rattle.std.specs.Option.{option_copied};
@@ -33,10 +34,11 @@ use crate::remains::Remains;
 use crate::state::State;
 use envelope::Slope;
 use plan::{Chart, Node, Plan, slopes};
-use query_runtime::{RunningQuery, WaitingAnswers};
+use query_runtime::RunningQuery;
 use reference::{Fault, count_undropped, find_plan, first_instant, query_place, register_fault};
 use run_queue::{RunQueue, Slot};
 use std::alloc::{AllocError, Global};
+use std::snapshot::Snapshot;
 use std::sync::Arc;
 use stream_store::Streams;
 
@@ -117,14 +119,7 @@ impl State {
         let first = first_for(self.alloc, &self.streams, &plan.streams)?;
         let places = places_of(self.alloc, &self.streams, &plan.streams)?;
         let running = running_of(self.alloc, &plan, &places, first)?;
-        let told = registration(
-            self.alloc,
-            name,
-            plan,
-            places,
-            first,
-            WaitingAnswers::new(self.alloc),
-        )?;
+        let told = registration(self.alloc, name, plan, places, first)?;
         self.add(name, told, running)
     }
 
@@ -256,9 +251,8 @@ fn registration(
     plan: Plan,
     places: Vec<Place>,
     first: u64,
-    earlier: WaitingAnswers,
 ) -> Result<Registration, AllocError>
-    requires { earlier ≡ [] }
+    requires { first ≤ all_instants }
     ensures { IfOk result (λ r. query_of r ≡ record {
       name = name.now;
       meaning = resolved_of plan.meaning;
@@ -269,6 +263,7 @@ fn registration(
       start = first;
       earlier = [];
       taken = 0;
+      ever_taken = 0;
       is_dropped = false;
     }) }
 {
@@ -282,8 +277,9 @@ fn registration(
         places,
         first,
         start: first,
-        earlier,
+        before: Snapshot::of(&Remains::Dropped),
         taken: 0,
+        ever_taken: 0,
         is_dropped: false,
     })
 }

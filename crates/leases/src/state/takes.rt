@@ -57,7 +57,7 @@ impl State {
     }
 
     /// Returns the fault of the first test that a take fails, except the test for a broken query.
-    fn take_fault(&self, query: u64, limit: i64) -> Option<Fault>
+    pub(super) fn take_fault(&self, query: u64, limit: i64) -> Option<Fault>
         ensures first { result ≡ first_fault (engine_in self.now).machine (Take query limit) }
         ensures told { IfSome result IsTold }
     {
@@ -115,7 +115,7 @@ impl State {
                 running,
                 self.registered[query as usize].nodes(),
             ),
-            Remains::Broken(_) => {
+            Remains::Broken(_, _) => {
                 empty_queues(self.alloc, self.registered[query as usize].nodes())
             },
             Remains::Dropped => Ok(Vec::new(self.alloc)),
@@ -145,7 +145,7 @@ fn hand_out(alloc: Global, remains: &mut Remains, limit: usize) -> Result<Vec<(i
 {
     match remains {
         Remains::Running(query) => Ok(query.take(alloc, limit)?),
-        Remains::Broken(answers) => {
+        Remains::Broken(answers, _) => {
             if answers.len() == 0 {
                 return Err(Fault::Broken);
             }
@@ -156,11 +156,12 @@ fn hand_out(alloc: Global, remains: &mut Remains, limit: usize) -> Result<Vec<(i
 }
 
 /// Counts `count` more of its answers as taken.
-fn count_taken(registered: &mut Registration, count: usize)
+pub(super) fn count_taken(registered: &mut Registration, count: usize)
     requires { registered.old.taken + count < 2 ^ 101 }
     ensures { query_of registered.new ≡ took count (query_of registered.old) }
 {
     registered.taken += count as u128;
+    registered.ever_taken = registered.ever_taken.saturating_add(count as u64);
 }
 
 /// Returns what each operator of a query does, with its slope.

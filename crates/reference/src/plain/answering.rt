@@ -8,6 +8,8 @@ use crate::fault::Fault;
 use crate::new_rows::NewRows;
 use crate::plain::Plain;
 use crate::refusals::turn_fault;
+use crate::status::Status;
+use answer_rows::AnswerRows;
 use envelope::Slope;
 use plan::{Chart, Kind};
 use values::Row;
@@ -72,6 +74,26 @@ impl Answering for Plain {
             Some(fault) => Err(fault),
             None => Ok(self.hand_out(query, limit)?),
         }
+    }
+
+    #[tactic(auto, unfolding(crate::specs::World::take_step))]
+    fn take_flat(&mut self, query: u64, limit: i64) -> Result<AnswerRows, Fault> {
+        match self.take_fault(query, limit) {
+            Some(fault) => Err(fault),
+            None => Ok(self.hand_out_flat(query, limit)?),
+        }
+    }
+
+    #[tactic(auto, unfolding(crate::specs::World::take_step, crate::specs::World::peek_at))]
+    fn peek(&self, query: u64, limit: i64) -> Result<AnswerRows, Fault> {
+        match self.take_fault(query, limit) {
+            Some(fault) => Err(fault),
+            None => Ok(self.show(query, limit)?),
+        }
+    }
+
+    fn status(&self) -> Result<Status, Fault> {
+        Ok(self.all_status()?)
     }
 
     #[tactic(auto, unfolding(crate::specs::World::drop_step))]

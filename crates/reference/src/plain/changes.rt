@@ -1,13 +1,14 @@
 //! Makes the changes of an accepted call.
 ghost use Rattle.std.specs.List.{list_all};
 ghost use Rattle.std.specs.Prelude.{◌≡◌, IfOk, OnOk, OnErr, None, length, min, true, [], ◌∷◌, ◌++◌};
-ghost use Rattle.std.specs.Prelude.{nat_abs, drop, take, map};
+ghost use Rattle.std.specs.Prelude.{nat_abs, drop, take, map, Ok};
 ghost use Rattle.reference.specs.Commands.{first_fault, register_tests, after, change};
 ghost use Rattle.reference.specs.Commands.{registered_as, Declare, Append, Heartbeat, Take, Drop};
 ghost use Rattle.reference.specs.CallViews.{texts_of, handed_of};
-ghost use Rattle.reference.specs.World.{handed, waiting_at, untaken};
+ghost use Rattle.reference.specs.World.{begins_at, handed, waiting_at, untaken};
 ghost use Rattle.reference.specs.PlainViews.{machine_in, world_of};
-ghost use Rattle.reference.specs.Standing.{found_of, query_of, waiting_of, fresh_of};
+ghost use Rattle.reference.specs.Standing.{found_of, query_of, waiting_of, upto_of, fresh_of};
+ghost use Rattle.reference.specs.Machine.{ends_at};
 ghost use Rattle.reference.specs.Places.{machine_of};
 ghost use Rattle.names.specs.Sound.{has_narrow_rows, all_slide};
 ghost use Rattle.names.specs.Faults.{first_of};
@@ -19,6 +20,7 @@ use crate::plain::Plain;
 use crate::plain::catalog::catalog_with;
 use crate::standing::StandingQuery;
 use crate::stream::Stream;
+use answer_rows::AnswerRows;
 use cql_reader::Name;
 use plan::Plan;
 use std::alloc::{AllocError, Global};
@@ -91,6 +93,8 @@ impl Plain {
                         ++ registered_as (machine_in self.old) name.now (found_of plan) ∷ [];
                   };
               waiting = (world_of self.old).waiting ++ [] ∷ [];
+              upto = (world_of self.old).upto
+                  ++ begins_at (machine_in self.old) (Ok (found_of plan)) ∷ [];
             }) }
         ensures err { OnErr result (world_of self.new ≡ world_of self.old) }
     {
@@ -147,9 +151,32 @@ impl Plain {
             ≡ change query
             (drop (min (nat_abs limit) (length (waiting_at (world_of self.old) query))))
             (world_of self.old).waiting) }
+        ensures upto { OnOk result ((world_of self.new).upto ≡ (world_of self.old).upto) }
         ensures err { OnErr result (world_of self.new ≡ world_of self.old) }
     {
         self.queries[query as usize].take(self.alloc, limit as usize)
+    }
+
+    /// Returns what `hand_out` returns, in one flat list.
+    ///
+    /// # Errors
+    /// `AllocError` when out of memory; then nothing has changed.
+    pub(crate) fn hand_out_flat(&mut self, query: u64, limit: i64) -> Result<AnswerRows, AllocError>
+        requires { first_fault (machine_in self.old) (Take query limit) ≡ None }
+        ensures rows { IfOk result (λ rows. rows
+            ≡ handed (take (min (nat_abs limit) (length (waiting_at (world_of self.old) query)))
+            (waiting_at (world_of self.old) query))) }
+        ensures machine { OnOk result (machine_in self.new
+            ≡ after (machine_in self.old) (Take query limit)
+            (min (nat_abs limit) (length (waiting_at (world_of self.old) query)))) }
+        ensures waiting { OnOk result ((world_of self.new).waiting
+            ≡ change query
+            (drop (min (nat_abs limit) (length (waiting_at (world_of self.old) query))))
+            (world_of self.old).waiting) }
+        ensures upto { OnOk result ((world_of self.new).upto ≡ (world_of self.old).upto) }
+        ensures err { OnErr result (world_of self.new ≡ world_of self.old) }
+    {
+        self.queries[query as usize].take_flat(self.alloc, limit as usize)
     }
 
     /// Makes the untaken answers of each query wait.
@@ -160,6 +187,8 @@ impl Plain {
         ensures ok { OnOk result (world_of self.new
             ≡ record (world_of self.old) {
               waiting = map (untaken (machine_in self.old))
+                  (machine_in self.old).queries;
+              upto = map (ends_at (machine_in self.old))
                   (machine_in self.old).queries;
             }) }
         ensures err { OnErr result (world_of self.new ≡ world_of self.old) }
@@ -173,6 +202,8 @@ impl Plain {
         ensures machine { machine_in self.new ≡ after (machine_in self.old) (Drop query) 0 }
         ensures waiting { (world_of self.new).waiting
             ≡ change query (λ rows. []) (world_of self.old).waiting }
+        ensures upto { (world_of self.new).upto
+            ≡ change query (λ end. 0) (world_of self.old).upto }
     {
         self.query_names.free(self.queries[query as usize].name());
         self.queries[query as usize].drop_out();
@@ -187,6 +218,7 @@ fn evaluate_each(
 ) -> Result<(), AllocError>
     ensures queries { map query_of queries.new ≡ map query_of queries.old }
     ensures waiting { map waiting_of queries.new ≡ map waiting_of queries.old }
+    ensures upto { map upto_of queries.new ≡ map upto_of queries.old }
     ensures fresh { OnOk result (map fresh_of queries.new
         ≡ map (untaken (machine_of streams.now)) (map query_of queries.new)) }
 {
@@ -197,12 +229,14 @@ fn evaluate_each(
 }
 
 /// Makes the fresh answers of each query wait. Takes no memory.
-fn refresh_each(queries: &mut [StandingQuery], alloc: Global)
+fn refresh_each(queries: &mut [StandingQuery], alloc: Global, streams: &[Stream])
     ensures queries { map query_of queries.new ≡ map query_of queries.old }
     ensures waiting { map waiting_of queries.new ≡ map fresh_of queries.old }
+    ensures upto { map upto_of queries.new
+        ≡ map (ends_at (machine_of streams.now)) (map query_of queries.old) }
 {
     for i in 0..queries.len() {
-        queries[i].refresh(alloc);
+        queries[i].refresh(alloc, streams);
     }
 }
 
@@ -210,6 +244,7 @@ fn refresh_each(queries: &mut [StandingQuery], alloc: Global)
 fn forget_each(queries: &mut [StandingQuery], alloc: Global)
     ensures queries { map query_of queries.new ≡ map query_of queries.old }
     ensures waiting { map waiting_of queries.new ≡ map waiting_of queries.old }
+    ensures upto { map upto_of queries.new ≡ map upto_of queries.old }
 {
     for i in 0..queries.len() {
         queries[i].forget_fresh(alloc);
@@ -228,11 +263,14 @@ fn refresh_all(
     ensures queries { map query_of queries.new ≡ map query_of queries.old }
     ensures waiting { OnOk result (map waiting_of queries.new
         ≡ map (untaken (machine_of streams.now)) (map query_of queries.new)) }
+    ensures upto { OnOk result (map upto_of queries.new
+        ≡ map (ends_at (machine_of streams.now)) (map query_of queries.old)) }
     ensures err { OnErr result (map waiting_of queries.new ≡ map waiting_of queries.old) }
+    ensures err_upto { OnErr result (map upto_of queries.new ≡ map upto_of queries.old) }
 {
     match evaluate_each(queries, alloc, streams) {
         Ok(()) => {
-            refresh_each(queries, alloc);
+            refresh_each(queries, alloc, streams);
             Ok(())
         }
         Err(error) => {

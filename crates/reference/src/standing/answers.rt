@@ -1,11 +1,11 @@
 //! Finds the answers of a registered query.
-ghost use Rattle.std.specs.Prelude.{◌≡◌, ◌<◌, ◌+◌, ◌^◌, IfOk, OnOk, drop, true};
+ghost use Rattle.std.specs.Prelude.{◌≡◌, ◌≤◌, ◌<◌, ◌+◌, ◌^◌, IfOk, OnOk, drop, true};
 ghost use Rattle.reference.specs.Inputs.{are_signed};
 ghost use Rattle.std.specs.VecDeque.{deque_len};
-ghost use Rattle.reference.specs.Machine.{closed_answers};
+ghost use Rattle.reference.specs.Machine.{closed_answers, ends_at};
 ghost use Rattle.reference.specs.World.{untaken};
 ghost use Rattle.reference.specs.Places.{machine_of};
-ghost use Rattle.reference.specs.Standing.{query_of, waiting_of, fresh_of};
+ghost use Rattle.reference.specs.Standing.{query_of, waiting_of, upto_of, fresh_of};
 ghost use Rattle.reference.specs.Views.{pairs_of, timed_of};
 
 use crate::evaluate::evaluate;
@@ -55,6 +55,7 @@ impl StandingQuery {
     pub(crate) fn evaluate(&mut self, alloc: Global, streams: &[Stream]) -> Result<(), AllocError>
         ensures query { query_of self.new ≡ query_of self.old }
         ensures waiting { waiting_of self.new ≡ waiting_of self.old }
+        ensures upto { upto_of self.new ≡ upto_of self.old }
         ensures fresh { OnOk result (fresh_of self.new
             ≡ untaken (machine_of streams.now) (query_of self.old)) }
     {
@@ -62,11 +63,26 @@ impl StandingQuery {
         Ok(())
     }
 
-    /// Makes the fresh answers wait, in place of those that waited. Takes no memory.
-    pub(crate) fn refresh(&mut self, alloc: Global)
+    /// Returns its first instant whose answers are not closed, 0 once it was dropped.
+    fn ends_at(&self, streams: &[Stream]) -> u64
+        ensures is { result ≡ ends_at (machine_of streams.now) (query_of self.now) }
+        ensures range { result ≤ 1099511627777 }
+    {
+        if self.is_dropped {
+            return 0;
+        }
+        self.first.max(until_for(streams, &self.places))
+    }
+
+    /// Makes the fresh answers wait, in place of those that waited. They are all that are closed
+    /// and not yet taken. Takes no memory.
+    pub(crate) fn refresh(&mut self, alloc: Global, streams: &[Stream])
         ensures query { query_of self.new ≡ query_of self.old }
         ensures waiting { waiting_of self.new ≡ fresh_of self.old }
+        ensures upto { upto_of self.new
+            ≡ ends_at (machine_of streams.now) (query_of self.old) }
     {
+        self.upto = self.ends_at(streams);
         self.waiting = replace(&mut self.fresh, VecDeque::new(alloc));
     }
 
@@ -74,6 +90,7 @@ impl StandingQuery {
     pub(crate) fn forget_fresh(&mut self, alloc: Global)
         ensures query { query_of self.new ≡ query_of self.old }
         ensures waiting { waiting_of self.new ≡ waiting_of self.old }
+        ensures upto { upto_of self.new ≡ upto_of self.old }
     {
         self.fresh = VecDeque::new(alloc);
     }

@@ -9,13 +9,14 @@ ghost use Rattle.reference.specs.World.{handed};
 ghost use Rattle.reference.specs.CallViews.{handed_of};
 ghost use Rattle.names.specs.Sound.{has_narrow_rows, all_slide};
 ghost use Rattle.reference.specs.Places.{machine_of};
-ghost use Rattle.reference.specs.Standing.{query_of, waiting_of, found_of};
+ghost use Rattle.reference.specs.Standing.{query_of, waiting_of, upto_of, found_of};
 ghost use Rattle.reference.specs.Views.{pairs_of};
 
 use crate::limits::rows_of_each;
 use crate::place::{first_instant, has_past, opens_of, places_of};
 use crate::standing::StandingQuery;
 use crate::stream::Stream;
+use answer_rows::AnswerRows;
 use plan::Plan;
 use std::alloc::{AllocError, Global};
 use std::collections::VecDeque;
@@ -35,6 +36,7 @@ impl StandingQuery {
         ensures query { IfOk result (λ q. query_of q
             ≡ registered_as (machine_of streams.now) (string_bytes name) (found_of plan)) }
         ensures waiting { IfOk result (λ q. waiting_of q ≡ []) }
+        ensures upto { IfOk result (λ q. upto_of q ≡ (query_of q).first) }
     {
         let places = places_of(alloc, streams, &plan.streams)?;
         let opens = opens_of(alloc, streams, &places)?;
@@ -45,6 +47,7 @@ impl StandingQuery {
             places,
             first,
             taken: 0,
+            upto: first,
             is_dropped: false,
             waiting: VecDeque::new(alloc),
             fresh: VecDeque::new(alloc),
@@ -97,6 +100,7 @@ impl StandingQuery {
             ≡ took (min limit (length (waiting_of self.old))) (query_of self.old)) }
         ensures waiting { OnOk result (waiting_of self.new
             ≡ drop (min limit (length (waiting_of self.old))) (waiting_of self.old)) }
+        ensures upto { upto_of self.new ≡ upto_of self.old }
         ensures err { OnErr result (self.new ≡ self.old) }
     {
         let count = limit.min(self.waiting.len());
@@ -108,12 +112,41 @@ impl StandingQuery {
         Ok(rows)
     }
 
+    /// Returns what `take` returns, in one flat list.
+    ///
+    /// # Errors
+    /// `AllocError` when out of memory; then nothing has changed.
+    pub(crate) fn take_flat(
+        &mut self,
+        alloc: Global,
+        limit: usize,
+    ) -> Result<AnswerRows, AllocError>
+        ensures handed { IfOk result (λ rows. rows
+            ≡ handed (take (min limit (length (waiting_of self.old))) (waiting_of self.old))) }
+        ensures query { OnOk result (query_of self.new
+            ≡ took (min limit (length (waiting_of self.old))) (query_of self.old)) }
+        ensures waiting { OnOk result (waiting_of self.new
+            ≡ drop (min limit (length (waiting_of self.old))) (waiting_of self.old)) }
+        ensures upto { upto_of self.new ≡ upto_of self.old }
+        ensures err { OnErr result (self.new ≡ self.old) }
+    {
+        let rows = self.peek(alloc, limit)?;
+        let count = limit.min(self.waiting.len());
+        drop_front(&mut self.waiting, count);
+        // no drain is under way
+        self.fresh.clear();
+        self.taken += count as u64;
+        Ok(rows)
+    }
+
     /// Drops it, and what waits at it. Takes no memory.
     pub(crate) fn drop_out(&mut self)
         ensures query { query_of self.new ≡ commands.dropped (query_of self.old) }
         ensures waiting { waiting_of self.new ≡ [] }
+        ensures upto { upto_of self.new ≡ 0 }
     {
         self.is_dropped = true;
+        self.upto = 0;
         self.waiting.clear();
     }
 }
@@ -134,5 +167,18 @@ pub fn move_front(waiting: &mut VecDeque<(u64, Row)>, rows: &mut Vec<(i64, Row)>
             Some((at, row)) => rows.push_reserved((at as i64, row)),
             None => unreachable!(),
         }
+    }
+}
+
+/// Drops the first `count` answers.
+fn drop_front(waiting: &mut VecDeque<(u64, Row)>, count: usize)
+    requires enough { count ≤ deque_len waiting.old }
+    requires instants { are_signed (pairs_of waiting.old.items) ≡ true }
+    ensures waiting { pairs_of waiting.new.items ≡ drop count (pairs_of waiting.old.items) }
+    ensures len { deque_len waiting.new + count ≡ deque_len waiting.old }
+    ensures instants_stay { are_signed (pairs_of waiting.new.items) ≡ true }
+{
+    for _ in 0..count {
+        let _ = waiting.pop_front();
     }
 }

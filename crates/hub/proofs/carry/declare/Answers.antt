@@ -14,7 +14,7 @@ returns-in-Ok-clause-ok c =
     let old = engine_in c.args.engine.now in
     let new = engine_in c.stream.new.self in
     let done = declare_done old new _ _ _ _ c.in-Ok.ensures.does c.in-Ok.ensures.engine in
-    rw c.new.ensures
+    rw c.numbered.ensures.given
     (subst (λ z. Answered old (Declare c.args.name.now (texts_of c.args.columns.now) z) (Number c.in-Ok.number) new) (to_z-of_z w64 c.args.from c.ranges.from) done)
 
 pub returns-in-Err-clause-err : goal.returns-in-Err-clause-err

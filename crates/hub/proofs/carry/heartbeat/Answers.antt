@@ -13,7 +13,7 @@ returns-in-Ok-clause-ok c =
     let old = engine_in c.args.engine.now in
     let new = engine_in c.heartbeat.new.self in
     let done = heartbeat_done old new _ _ _ c.in-Ok.ensures.does c.in-Ok.ensures.engine c.in-Ok.ensures.closes c.in-Ok.ensures.queues in
-    rw c.new.ensures (subst (λ z. Answered old (Heartbeat c.args.stream z) Done new) (to_z-of_z w64 c.args.at c.ranges.at) done)
+    rw c.finished.ensures.given (subst (λ z. Answered old (Heartbeat c.args.stream z) Done new) (to_z-of_z w64 c.args.at c.ranges.at) done)
 
 pub returns-in-Err-clause-err : goal.returns-in-Err-clause-err
 returns-in-Err-clause-err c =

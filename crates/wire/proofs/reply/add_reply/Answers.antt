@@ -1,20 +1,12 @@
 use Rattle.std.proofs.Common.{◌++◌, ◌∙◌, ap, sym, codes}
-use Rattle.reference.specs.CallViews.{handed_of}
 use Rattle.reference.specs.FaultTexts.{fault_text, fault_name, place_text}
-use Rattle.wire.specs.Printed.{line_of, answer_of, rows, operators, error_line}
+use Rattle.wire.specs.Printed.{line_of, answer_of, operators, error_line}
 use Rattle.wire.proofs.Printing.{writes_both, write_text}
 use Rattle.wire.proofs.reply.add_reply.Goals as goal
 
 pub returns-in-Done : goal.returns-in-Done
 unfolding line_of
 returns-in-Done g c = write_text (line_of (answer_of c.args.reply.now)) (sym (ap (λ r. line_of (answer_of r)) c.in-Done.is)) c.add.ensures
-
-pub returns-in-Rows : goal.returns-in-Rows
-unfolding line_of
-returns-in-Rows g c =
-    write_text (line_of (answer_of c.args.reply.now))
-    (ap (λ l. line_of (rows (handed_of l))) c.deref.ensures.value ∙ sym (ap (λ r. line_of (answer_of r)) c.in-Rows.is))
-    (writes_both {x = codes "{\"ok\":true,\"rows\":["} c.add-in-Rows.ensures (writes_both c.add_rows.ensures c.add-in-Rows-2.ensures))
 
 pub returns-in-Operators : goal.returns-in-Operators
 unfolding line_of

@@ -17,9 +17,9 @@ invariant_of-self-2 c =
     let long = ap (λ d. length d.history) c.self.view_is in
     let room : c.self.inside.first + length c.self.inside.history.items < 2 ^ 63 = omega (arith, first, long, c.in_ok-number.ensures.ok.1.1) in (
       replays_next (opening_in c.self.inside.opening) (engine_in c.self.inside.engine).machine (engine_in c.carry_out.new.engine).machine c.self.inside.history.items c.reserve.new.self.items c.push_reserved.new.self.items
-          c.new-logged.result _ _ c.copy_into.result c.deref.result.now c.in_ok-reply.reply
+          c.new-logged.result _ _ c.in_ok-reply.logged_reply c.deref.result.now c.in_ok-reply.reply
           c.push_reserved.ensures.items c.in_ok-reserve.ensures.items c.new-logged.ensures
-          (search rules) c.copy_into.ensures c.self.invariant.0 c.in_ok-reply.ensures.ok.step,
+          (search rules) c.in_ok-reply.ensures.one.0 c.self.invariant.0 c.in_ok-reply.ensures.ok.step,
       c.self.invariant.1,
       c.self.invariant.2,
       fits_next c.self.inside.first c.self.inside.history.items c.reserve.new.self.items c.push_reserved.new.self.items c.new-logged.result c.push_reserved.ensures.items c.in_ok-reserve.ensures.items room,
@@ -53,9 +53,9 @@ returns-clause-ok c =
     let here = subst (λ x. Answered (engine_in c.self.inside.engine) x r new) command c.in_ok-reply.ensures.ok in
     let answered = subst (λ d. Answered (engine_at d) c.args.command r new) c.self.view_is here in
     let legal = subst (λ d. Replays (opening_in d.opening) d.history (engine_at d).machine) c.self.view_is c.self.invariant.0 in
-    let logged = entry_is c.new-logged.result c.args.seat.now.number c.seat.inside.number c.args.command _ r _ c.new-logged.ensures seat c.in_ok-told_command.ensures.1 c.copy_into.ensures in
-    let kept = entry_is c.new-kept.result c.args.seat.now.number c.seat.inside.number c.args.command _ r _ c.new-kept.ensures seat c.in_ok-told_command.ensures.2 c.copy_into-2.ensures in
-    let told = entry_is c.new-told.result c.args.seat.now.number c.seat.inside.number c.args.command _ r _ c.new-told.ensures seat c.in_ok-told_command.ensures.0 c.copy_into-3.ensures in
+    let logged = entry_is c.new-logged.result c.args.seat.now.number c.seat.inside.number c.args.command _ r _ c.new-logged.ensures seat c.in_ok-told_command.ensures.1 c.in_ok-reply.ensures.one.0 in
+    let kept = entry_is c.new-kept.result c.args.seat.now.number c.seat.inside.number c.args.command _ r _ c.new-kept.ensures seat c.in_ok-told_command.ensures.2 c.in_ok-reply.ensures.one.1 in
+    let told = entry_is c.new-told.result c.args.seat.now.number c.seat.inside.number c.args.command _ r _ c.new-told.ensures seat c.in_ok-told_command.ensures.0 c.in_ok-reply.ensures.one.2 in
     let history = longer _ _ c.args.self.now.history _ _ c.push_reserved.ensures.items (c.in_ok-reserve.ensures.items ∙ ap (λ d. d.history) c.self.view_is) logged in
     let receipts = longer _ _ c.args.seat.now.receipts _ _ c.push_reserved-2.ensures.items (c.in_ok-reserve-2.ensures.items ∙ ap (λ s. s.receipts) c.seat.view_is) (receipt_is c.new-receipt.result n _ _ c.new-receipt.ensures kept) in
     accepting c.args.self.now _ c.args.seat.now _ c.args.command r n c.new-answer.result legal answered c.in_ok-number.ensures.ok

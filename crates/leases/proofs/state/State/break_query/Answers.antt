@@ -16,12 +16,12 @@ returns-clause-engine c p running =
     ap (λ gs. map lease_of gs) c.stop.ensures.leases ∙ leases_left (λ (l : Lease). not (l.query == c.args.query)) c.args.self.now.leases.items in
     let here : remains_of c.index_mut.result.now ≡ Running p =
     ap remains_of c.index_mut.ensures.value ∙ item_remains c.args.self.now.remains.items c.args.query c.index_mut.result.now p running in
-    let queries : map remains_of (set c.args.self.now.remains.items c.args.query c.give_up.new.self) ≡ set (engine_in c.args.self.now).queries c.args.query (Broken p.answers) =
+    let queries : map remains_of (set c.args.self.now.remains.items c.args.query c.give_up.new.self) ≡ set (engine_in c.args.self.now).queries c.args.query (Broken p.answers c.args.reach.next) =
     remains_set c.args.self.now.remains.items c.args.query c.give_up.new.self ∙ ap (set (engine_in c.args.self.now).queries c.args.query) (c.give_up.ensures p here) in
     ap (λ (s : State). engine_in s) c.stop.ensures.rest
     ∙ ap (λ (qs : List PlainRemains). record (engine_in c.args.self.now) { queries = qs; leases = map lease_of c.stop.new.self.leases.items; slots = c.stop.new.self.slots }) queries
-    ∙ ap (λ (ls : List Lease). record (engine_in c.args.self.now) { queries = set (engine_in c.args.self.now).queries c.args.query (Broken p.answers); leases = ls; slots = c.stop.new.self.slots }) leases
-    ∙ ap (λ (ss : List Slot). record (engine_in c.args.self.now) { queries = set (engine_in c.args.self.now).queries c.args.query (Broken p.answers); leases = of_others c.args.query (engine_in c.args.self.now).leases; slots = ss }) c.stop.ensures.slots
+    ∙ ap (λ (ls : List Lease). record (engine_in c.args.self.now) { queries = set (engine_in c.args.self.now).queries c.args.query (Broken p.answers c.args.reach.next); leases = ls; slots = c.stop.new.self.slots }) leases
+    ∙ ap (λ (ss : List Slot). record (engine_in c.args.self.now) { queries = set (engine_in c.args.self.now).queries c.args.query (Broken p.answers c.args.reach.next); leases = of_others c.args.query (engine_in c.args.self.now).leases; slots = ss }) c.stop.ensures.slots
 
 pub returns-clause-forgets : goal.returns-clause-forgets
 returns-clause-forgets c = record {

@@ -7,28 +7,22 @@ use Rattle.leases.specs.Views.{engine_of}
 use Rattle.leases.specs.declared.state.State.{State}
 use Rattle.leases.proofs.ForgetLemmas.{forgets, forgotten_closed, forgotten_sound}
 use Rattle.leases.proofs.MarkLemmas.{markable}
-use Rattle.leases.proofs.RestartLemmas.{as_many}
 use Rattle.leases.proofs.state.State.forget.Goals as goal
 
 pub keep_rows-requires : goal.keep_rows-requires
-keep_rows-requires c = (needs_in (engine_in c.args.self.now), subst (λ v. Says (needs_in (engine_in c.args.self.now)) v c.args.self.now.streams) (sym c.deref-2.ensures.value) c.in_ok-kept.ensures)
+keep_rows-requires c = (needs_in (engine_in c.args.self.now), subst (λ v. Says (needs_in (engine_in c.args.self.now)) v c.args.self.now.streams) (sym c.deref.ensures.value) c.in_ok-kept.ensures)
 
-pub restart-requires-clause-marks : goal.restart-requires-clause-marks
-restart-requires-clause-marks c = subst₂ AreMarkable (sym c.deref_mut.ensures.value) (sym c.deref-3.ensures.value) (markable c.args.self.now c.requires)
-
-pub restart-requires-clause-many : goal.restart-requires-clause-many
-restart-requires-clause-many c =
-    as_many c.args.self.now.registered.items c.args.self.now.remains.items c.in_ok-waiting.waiting.items (markable c.args.self.now c.requires) (c.in_ok-waiting.ensures ∙ ap earlier_in c.deref.ensures.value)
-    ∙ ap (λ l. length l) (sym c.deref_mut.ensures.value)
+pub restart-requires : goal.restart-requires
+restart-requires c = subst₂ AreMarkable (sym c.deref_mut.ensures.value) (sym c.deref-2.ensures.value) (markable c.args.self.now c.requires)
 
 pub returns-clause-ok : goal.returns-clause-ok
 returns-clause-ok c =
     ap engine_in c.count_left.ensures
     ∙ ap (λ rs. engine_of c.keep_rows.new.streams rs c.args.self.now.remains.items c.args.self.now.leases.items c.args.self.now.next c.args.self.now.slots)
     (with_items_is c.args.self.now.registered c.restart.new.registered (c.restart.auto.registered ∙ ap (λ l. length l) c.deref_mut.ensures.value ∙ sym c.args.self.now.registered.ok.0))
-    ∙ forgets c.args.self.now c.keep_rows.new.streams c.restart.new.registered c.in_ok-waiting.waiting.items
-    (c.keep_rows.ensures (needs_in (engine_in c.args.self.now)) (subst (λ v. Says (needs_in (engine_in c.args.self.now)) v c.args.self.now.streams) (sym c.deref-2.ensures.value) c.in_ok-kept.ensures))
-    (c.restart.ensures ∙ ap₂ (λ x y. restarted_by x y c.in_ok-waiting.waiting.items) c.deref_mut.ensures.value c.deref-3.ensures.value) (c.in_ok-waiting.ensures ∙ ap earlier_in c.deref.ensures.value)
+    ∙ forgets c.args.self.now c.keep_rows.new.streams c.restart.new.registered
+    (c.keep_rows.ensures (needs_in (engine_in c.args.self.now)) (subst (λ v. Says (needs_in (engine_in c.args.self.now)) v c.args.self.now.streams) (sym c.deref.ensures.value) c.in_ok-kept.ensures))
+    (c.restart.ensures ∙ ap₂ (λ x y. restarted_by x y (earlier_in y)) c.deref_mut.ensures.value c.deref-2.ensures.value)
 
 pub returns-clause-sound : goal.returns-clause-sound
 returns-clause-sound c =

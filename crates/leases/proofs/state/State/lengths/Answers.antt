@@ -18,5 +18,5 @@ returns-in-Running c =
 
 pub returns-in-Broken : goal.returns-in-Broken
 returns-in-Broken c =
-    noughts_are (λ v. v.items) c.empty_queues.result c.args.self.now c.args.query c.index-in-Broken.result.now c.index.result.now c.in-Broken.field-0 c.requires.sound c.requires.accepted c.index-in-Broken.ensures c.index.ensures c.in-Broken.is
+    noughts_are (λ v. v.items) c.empty_queues.result c.args.self.now c.args.query c.index-in-Broken.result.now c.index.result.now c.in-Broken.field-0 c.in-Broken.field-1 c.requires.sound c.requires.accepted c.index-in-Broken.ensures c.index.ensures c.in-Broken.is
     (subst (λ ns. IfOk c.empty_queues.result (λ v. v.items ≡ noughts_of (nodes_of ns))) c.nodes-in-Broken.ensures c.empty_queues.ensures)

@@ -6,6 +6,7 @@ use Rattle.laws_engine.specs.Engines.{world_of}
 use Rattle.laws_engine.proofs.RegisteredLemmas.{register_good}
 use Rattle.laws_engine.specs.Accepted.{newest}
 use Rattle.laws_engine.proofs.StartLemmas.{found_accepted, plans_may_be_made, registrations_run}
+use Rattle.laws_engine.proofs.UptoLemmas.{begun_upto}
 use Rattle.leases.specs.Shown.{engine_in, world_in}
 use Rattle.leases.proofs.QueryLemmas.{lacks_memory, refused_early, refused_later, registers}
 use Rattle.leases.proofs.state.State.query.Goals as goal
@@ -37,8 +38,10 @@ returns-in-Ok-register-clause-does c =
     let given = given_by (option_copied c.args.chart) in
     let accepted = found_accepted e.machine c.args.name.now c.args.text.now given (found_of c.in-Ok.plan) (sym c.in_default.ensures.first) c.in-Ok.ensures.finds in
     let r = c.in-Ok-register.ensures.engine in
-    registers e (engine_in c.register.new.self) c.args.name.now c.args.text.now given (newest e.machine c.args.name.now c.in-Ok.plan) r.0 c.in-Ok-register.number
-    (registrations_run e c.args.name.now c.args.text.now given c.in-Ok.plan r.0 c.requires.good c.requires.columns accepted c.in-Ok.ensures.plan r.1.0) r.1.0.answers c.in-Ok-register.ensures.number r.1.1
+    let q = newest e.machine c.args.name.now c.in-Ok.plan in
+    registers e (engine_in c.register.new.self) c.args.name.now c.args.text.now given q r.0 c.in-Ok-register.number (found_of c.in-Ok.plan)
+    (registrations_run e c.args.name.now c.args.text.now given c.in-Ok.plan r.0 c.requires.good c.requires.columns accepted c.in-Ok.ensures.plan r.1.0) r.1.0.answers c.requires.good.many c.in-Ok.ensures.finds refl
+    (begun_upto c.in-Ok.plan q r.0 r.1.0) c.in-Ok-register.ensures.number r.1.1
 
 pub returns-in-Ok-register-clause-engine : goal.returns-in-Ok-register-clause-engine
 returns-in-Ok-register-clause-engine c =

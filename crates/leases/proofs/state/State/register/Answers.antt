@@ -1,13 +1,21 @@
-use Rattle.std.proofs.Common.{◌≡◌, ◌∙◌, ap, map, sym, subst}
+use Rattle.std.proofs.Common.{◌≡◌, ◌≤◌, ◌∙◌, ap, map, sym, subst}
 use Rattle.reference.specs.Commands.{place_at}
 use Rattle.reference.specs.Machine.{Registered, first_for}
+use Rattle.reference.specs.Opening.{all_instants}
 use Rattle.laws_engine.specs.Calls.{registered}
 use Rattle.laws_engine.specs.Engines.{GoodEngine}
 use Rattle.laws_engine.specs.Accepted.{IsBegun, newest}
+use Rattle.laws_engine.proofs.InstantLemmas.{first_few}
 use Rattle.leases.specs.Shown.{engine_in}
 use Rattle.leases.specs.Views.{place_of, query_of}
 use Rattle.leases.proofs.BegunLemmas.{begun, on_ok, told_is}
 use Rattle.leases.proofs.state.State.register.Goals as goal
+
+pub registration-requires : goal.registration-requires
+registration-requires c =
+    let m = (engine_in c.args.self.now).machine in
+    let ps = map (place_at m) c.deref.result.now in
+    subst (λ n. n ≤ all_instants) (sym c.in_ok-first.ensures) (first_few m.streams ps c.requires.sound.closed.streams)
 
 pub add-requires-clause-good : goal.add-requires-clause-good
 add-requires-clause-good c =

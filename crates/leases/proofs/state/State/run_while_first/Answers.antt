@@ -2,7 +2,8 @@
 use Rattle.std.proofs.Common.{◌≡◌, ◌+◌, arith}
 use Rattle.leases.specs.Shown.{engine_in}
 use Rattle.leases.proofs.InPlaceLemmas.{given}
-use Rattle.leases.proofs.TurnsLemmas.{at_numbers, before_next, before_sound, begins, goes_again, may_break, may_run, may_tell_before, may_tell_then, next_looked, ran_then, sound_then, wanted_before, wanted_within, within_next, within_sound}
+use Rattle.leases.proofs.StepLemmas.{may_look_here}
+use Rattle.leases.proofs.TurnsLemmas.{at_numbers, before_next, before_sound, begins, goes_again, last_then, last_within, may_break, may_run, may_tell_before, may_tell_then, next_looked, ran_then, reaches, sound_then, wanted_before, wanted_within, within_next, within_sound}
 use Rattle.leases.proofs.state.State.run_while_first.Goals as goal
 
 pub turns-init : goal.turns-init
@@ -16,7 +17,11 @@ turns-init c = record {
     numbers = omega (arith, c.requires.numbers, c.requires.few);
   });
   left = c.requires.numbers;
+  last = c.last_tick-last.ensures;
 }
+
+pub last_tick-last-requires : goal.last_tick-last-requires
+last_tick-last-requires c = may_look_here c.args.self.now c.args.slot.now c.requires.sound c.requires.first
 
 pub run_query-requires : goal.run_query-requires
 run_query-requires c = may_run c.turns.invariant.running
@@ -47,22 +52,29 @@ returns-in-Err-Before-clause-most c =
     omega (arith, same, c.turns.invariant.left)
 
 -- ITS QUERY BREAKS
+pub reach_of-reach-requires : goal.reach_of-reach-requires
+reach_of-reach-requires c =
+    last_within c.turns.invariant.running c.run_query.ensures.rest c.in-Err-Within.field-0-is c.in-Err-Within.ensures.err c.query-query.result c.query-query.ensures c.index.result.now c.index.ensures c.turns.last c.turns.invariant.last
+
 pub break_query-requires : goal.break_query-requires
 break_query-requires c = may_break c.turns.invariant.running c.run_query.ensures.rest c.in-Err-Within.field-0-is c.in-Err-Within.ensures.err c.query-query.result c.query-query.ensures
 
 pub returns-in-Err-Within-clause-err : goal.returns-in-Err-Within-clause-err
 returns-in-Err-Within-clause-err c =
-    wanted_within c.turns.invariant.running c.run_query.ensures.rest c.in-Err-Within.field-0-is c.in-Err-Within.ensures.err c.query-query.result c.query-query.ensures c.break_query.new.self c.break_query.ensures.engine
+    wanted_within c.turns.invariant.running c.run_query.ensures.rest c.in-Err-Within.field-0-is c.in-Err-Within.ensures.err c.query-query.result c.query-query.ensures c.reach_of-reach.result.next
+    (reaches c.turns.invariant.running c.run_query.ensures.rest c.in-Err-Within.field-0-is c.in-Err-Within.ensures.err c.query-query.result c.query-query.ensures c.index.result.now c.index.ensures c.turns.last c.turns.invariant.last c.reach_of-reach.ensures) c.break_query.new.self c.break_query.ensures.engine
 
 pub returns-in-Err-Within-clause-sound : goal.returns-in-Err-Within-clause-sound
 returns-in-Err-Within-clause-sound c =
-    within_sound c.turns.invariant.running c.run_query.ensures.rest c.in-Err-Within.field-0-is c.in-Err-Within.ensures.err c.query-query.result c.query-query.ensures c.break_query.new.self c.break_query.ensures.engine
+    within_sound c.turns.invariant.running c.run_query.ensures.rest c.in-Err-Within.field-0-is c.in-Err-Within.ensures.err c.query-query.result c.query-query.ensures c.reach_of-reach.result.next
+    (reaches c.turns.invariant.running c.run_query.ensures.rest c.in-Err-Within.field-0-is c.in-Err-Within.ensures.err c.query-query.result c.query-query.ensures c.index.result.now c.index.ensures c.turns.last c.turns.invariant.last c.reach_of-reach.ensures) c.break_query.new.self c.break_query.ensures.engine
     c.break_query.ensures.forgets
 
 pub returns-in-Err-Within-clause-most : goal.returns-in-Err-Within-clause-most
 returns-in-Err-Within-clause-most c =
     let one : c.break_query.new.self.next ≡ c.turns.self.next + 1 =
-    within_next c.turns.invariant.running c.run_query.ensures.rest c.in-Err-Within.field-0-is c.in-Err-Within.ensures.err c.query-query.result c.query-query.ensures c.break_query.new.self c.break_query.ensures.engine in
+    within_next c.turns.invariant.running c.run_query.ensures.rest c.in-Err-Within.field-0-is c.in-Err-Within.ensures.err c.query-query.result c.query-query.ensures c.reach_of-reach.result.next
+    (reaches c.turns.invariant.running c.run_query.ensures.rest c.in-Err-Within.field-0-is c.in-Err-Within.ensures.err c.query-query.result c.query-query.ensures c.index.result.now c.index.ensures c.turns.last c.turns.invariant.last c.reach_of-reach.ensures) c.break_query.new.self c.break_query.ensures.engine in
     omega (arith, one, c.turns.invariant.left)
 
 -- IT HAS RUN
@@ -95,4 +107,8 @@ turns-preserved c =
           (may_tell_then c.turns.invariant.running c.run_query.ensures.rest c.in-Ok.ensures.ok).here c.next_for-next-in-turns.ensures)
           goes c.requires.few c.goes_before-stays.ensures.0 c.with_next-turn.ensures;
       left = goes.numbers;
+      last = last_then c.turns.invariant.running c.run_query.ensures.rest c.in-Ok.ensures.ok c.turns.invariant.last c.last_behind-last.ensures;
     }
+
+pub last_behind-last-requires : goal.last_behind-last-requires
+last_behind-last-requires c = (may_tell_then c.turns.invariant.running c.run_query.ensures.rest c.in-Ok.ensures.ok).here

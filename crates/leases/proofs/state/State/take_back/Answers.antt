@@ -8,6 +8,7 @@ use Rattle.leases.specs.Turns.{lease_of_parts}
 use Rattle.leases.specs.declared.state.State.{State}
 use Rattle.leases.proofs.FinishBackLemmas.{AreSteps, broken_sound, gives_on, may_apply, may_look, may_tell, out_as_in, parts_come_back, sound_ended, taken_in, wired_operators}
 use Rattle.leases.proofs.LeaveLemmas.{fewer}
+use Rattle.leases.proofs.MarkLemmas.{markable}
 use Rattle.leases.proofs.state.State.take_back.Goals as goal
 
 -- by its lease it is out
@@ -23,8 +24,11 @@ above-above-requires-clause-here c = may_look (engine_in c.args.self.now) (lease
 pub above-above-requires-clause-wired : goal.above-above-requires-clause-wired
 above-above-requires-clause-wired c = wired_operators (engine_in c.args.self.now) (lease_of_parts c.args.parts) c.parts.inside.0.1.0.query c.requires.sound.good (out c.args.self.now c.args.parts c.requires.sound c.requires.out) (ap (λ (d : Parts). d.node.query) c.parts.view_is)
 
-pub apply-requires : goal.apply-requires
-apply-requires c = may_apply (engine_in c.args.self.now) c.args.parts c.requires.sound.good c.requires.out c.requires.done
+pub apply-requires-clause-may : goal.apply-requires-clause-may
+apply-requires-clause-may c = may_apply (engine_in c.args.self.now) c.args.parts c.requires.sound.good c.requires.out c.requires.done
+
+pub apply-requires-clause-markable : goal.apply-requires-clause-markable
+apply-requires-clause-markable c = markable c.args.self.now c.requires.sound
 
 pub returns-in_err-apply-clause-sound : goal.returns-in_err-apply-clause-sound
 returns-in_err-apply-clause-sound c = broken_sound c.args.self.now c.apply.new.self (lease_of_parts c.args.parts) c.requires.sound (out c.args.self.now c.args.parts c.requires.sound c.requires.out) c.in_err-apply.ensures.err c.in_err-apply.ensures.forgets

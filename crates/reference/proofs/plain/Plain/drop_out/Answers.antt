@@ -1,7 +1,7 @@
 use Rattle.std.proofs.Common.{◌≡◌, ◌<◌, ℕ, List, [], length, ap, sym, subst, refl, ◌∙◌, map, get_or, set}
 use Rattle.reference.specs.Machine.{Machine, Registered}
 use Rattle.reference.specs.Commands.{dropped}
-use Rattle.reference.specs.Standing.{query_of, waiting_of}
+use Rattle.reference.specs.Standing.{query_of, waiting_of, upto_of}
 use Rattle.reference.specs.declared.standing.StandingQuery.{StandingQuery}
 use Rattle.reference.proofs.StepLemmas.{set-change, query_in}
 use Rattle.std.proofs.Common.{Some, None, Option, slice_get}
@@ -23,6 +23,12 @@ returns-clause-waiting c =
     let p = c.args.self.now in
     let lt : c.args.query < length p.queries.items = query_in [] p.queries.items c.args.query c.requires in
     set-change waiting_of (λ rows. []) p.queries.items c.args.query c.drop_out.new.self c.index_mut.result.now lt c.drop_out.ensures.waiting
+
+pub returns-clause-upto : goal.returns-clause-upto
+returns-clause-upto c =
+    let p = c.args.self.now in
+    let lt : c.args.query < length p.queries.items = query_in [] p.queries.items c.args.query c.requires in
+    set-change upto_of (λ n. 0) p.queries.items c.args.query c.drop_out.new.self c.index_mut.result.now lt c.drop_out.ensures.upto
 
 pub invariant_of-self : goal.invariant_of-self
 invariant_of-self c =

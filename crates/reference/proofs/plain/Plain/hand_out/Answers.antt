@@ -4,7 +4,7 @@ use Rattle.reference.specs.Machine.{Machine, Registered}
 use Rattle.reference.specs.World.{waiting_at}
 use Rattle.reference.specs.Commands.{took, take_tests}
 use Rattle.reference.specs.PlainViews.{world_of}
-use Rattle.reference.specs.Standing.{query_of, waiting_of}
+use Rattle.reference.specs.Standing.{query_of, waiting_of, upto_of}
 use Rattle.reference.specs.declared.standing.StandingQuery.{StandingQuery}
 use Rattle.reference.proofs.StepLemmas.{set-change, on_ok, handed_count, query_in}
 use Rattle.std.proofs.Math.Seq.{map-set_same}
@@ -40,6 +40,13 @@ returns-clause-waiting c =
     (h ∙ ap (λ (q : StandingQuery). drop (min (nat_abs c.args.limit) (length (waiting_of q))) (waiting_of q)) c.index_mut.ensures.value
     ∙ ap (λ (n : ℕ). drop n (waiting_of (get_or p.queries.items c.args.query old))) count))
     (simp limit at c.take.ensures.waiting)
+
+pub returns-clause-upto : goal.returns-clause-upto
+returns-clause-upto c =
+    let p = c.args.self.now in
+    let old = c.index_mut.result.now in
+    let same = map-set_same upto_of p.queries.items c.args.query c.take.new.self old (c.take.ensures.upto ∙ ap upto_of c.index_mut.ensures.value) in
+    on_ok c.take.result (λ h. same) c.take.ensures.query
 
 pub invariant_of-self : goal.invariant_of-self
 invariant_of-self c =

@@ -1,4 +1,5 @@
 use Rattle.std.proofs.Common.{◌≡◌, ℕ, List, [], length, ap, sym, subst, ◌∙◌, map, ◌++◌, ◌∷◌, arith}
+use Rattle.reference.specs.Machine.{Registered}
 use Rattle.reference.specs.Commands.{registered_as}
 use Rattle.reference.specs.PlainViews.{machine_in}
 use Rattle.reference.specs.Places.{machine_of}
@@ -20,7 +21,7 @@ returns-clause-ok c =
     = c.push_reserved.ensures.items ∙ ap (λ (qs : List StandingQuery). qs ++ c.in_ok-query.query ∷ []) c.in_ok-reserve.ensures.items in
     let named : query_of c.in_ok-query.query ≡ registered_as (machine_of p.streams.items) c.args.name.now (found_of c.args.plan)
     = (rw c.deref.ensures.value at c.in_ok-query.ensures.query) ∙ ap (λ (n : List ℕ). registered_as (machine_of p.streams.items) n (found_of c.args.plan)) c.in_ok-own_name.ensures.ok in
-    ap (made p.streams.items) items ∙ registered_world p.streams.items p.queries.items c.in_ok-query.query _ named c.in_ok-query.ensures.waiting
+    ap (made p.streams.items) items ∙ registered_world p.streams.items p.queries.items c.in_ok-query.query _ _ named c.in_ok-query.ensures.waiting (c.in_ok-query.ensures.upto ∙ ap (λ (r : Registered). r.first) named)
 
 pub push-requires-clause-fresh : goal.push-requires-clause-fresh
 push-requires-clause-fresh c =

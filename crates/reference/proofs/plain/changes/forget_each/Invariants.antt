@@ -1,9 +1,10 @@
 use Rattle.std.proofs.Common.{◌≡◌, map}
-use Rattle.reference.specs.Standing.{query_of, waiting_of}
+use Rattle.reference.specs.Standing.{query_of, waiting_of, upto_of}
 use Rattle.reference.proofs.plain.changes.forget_each.Given as goal
 
 abbrev pub invariant-loop-i : goal.invariant-loop-i
 invariant-loop-i l = record {
   queries : map query_of l.queries ≡ map query_of l.initial.queries;
   waiting : map waiting_of l.queries ≡ map waiting_of l.initial.queries;
+  upto : map upto_of l.queries ≡ map upto_of l.initial.queries;
 }

@@ -1,42 +1,30 @@
-use Rattle.std.proofs.Common.{◌≡◌, ◌<◌, ◌+◌, ◌∙◌, ap, ap₂, sym, subst, arith, length, take, List, ℕ, Option, ℤ}
+use Rattle.std.proofs.Common.{◌≡◌, ◌∙◌, ap, ap₂, sym, subst, arith, take, List, ℕ, Option, ℤ}
 use Rattle.values.specs.Row.{Row}
 use Rattle.row_bags.specs.declared.dated_rows.Head.{Head}
 use Rattle.row_bags.specs.Dated.{dated_by, AreHeaded, count_values}
-use Rattle.row_bags.proofs.DatedLemmas.{AreHeaded-first, count-next, count-within, dated_by-first, length-dated_by}
+use Rattle.row_bags.proofs.DatedLemmas.{AreHeaded-first, count-within, dated_by-first, within-rows}
 use Rattle.row_bags.proofs.dated_rows.DatedRows.keep_first.Goals as goal
 
-pub index-requires : goal.index-requires
-index-requires c =
+pub values_of_first-values-requires-clause-within : goal.values_of_first-values-requires-clause-within
+values_of_first-values-requires-clause-within c =
     let s = c.self.inside in
-    omega (arith, c.loop-place-test.true, c.requires, s.heads.ok, length-dated_by s.heads.items s.values.items, ap (λ (es : List (ℕ × Row)). length es) c.self.view_is)
+    omega (arith, c.requires, within-rows s.heads.items s.values.items c.args.self.now c.self.view_is)
 
-pub overflow_add-values : goal.overflow_add-values
-overflow_add-values c =
+pub values_of_first-values-requires-clause-few : goal.values_of_first-values-requires-clause-few
+values_of_first-values-requires-clause-few c =
     let s = c.self.inside in
-    let within : c.loop-place.place < length s.heads.items = omega (arith, c.loop-place-test.true, c.requires, length-dated_by s.heads.items s.values.items, ap (λ (es : List (ℕ × Row)). length es) c.self.view_is) in
-    let next = count-next c.loop-place.place s.heads.items c.index.result.now within c.index.ensures in
-    omega (arith, c.loop-place.invariant, next, count-within (c.loop-place.place + 1) s.heads.items s.values.items c.self.invariant, s.values.ok)
-
-pub loop-place-preserved : goal.loop-place-preserved
-loop-place-preserved c =
-    let s = c.self.inside in
-    let within : c.loop-place.place < length s.heads.items = omega (arith, c.loop-place-test.true, c.requires, length-dated_by s.heads.items s.values.items, ap (λ (es : List (ℕ × Row)). length es) c.self.view_is) in
-    ap (λ (n : ℕ). n + c.index.result.now.width) c.loop-place.invariant ∙ sym (count-next c.loop-place.place s.heads.items c.index.result.now within c.index.ensures)
+    omega (arith, count-within c.args.count s.heads.items s.values.items c.self.invariant, s.values.ok)
 
 pub invariant_of-self : goal.invariant_of-self
 invariant_of-self c =
     let s = c.self.inside in
-    let whole : c.loop-place.place ≡ c.args.count = omega arith in
-    let many : c.loop-place.values ≡ count_values (take c.args.count s.heads.items) = c.loop-place.invariant ∙ ap (λ (n : ℕ). count_values (take n s.heads.items)) whole in
-    let values : c.truncate-2.new.self.items ≡ take (count_values (take c.args.count s.heads.items)) s.values.items = c.truncate-2.ensures.items ∙ ap (λ (n : ℕ). take n s.values.items) many in
+    let values : c.truncate-2.new.self.items ≡ take (count_values (take c.args.count s.heads.items)) s.values.items = c.truncate-2.ensures.items ∙ ap (λ (n : ℕ). take n s.values.items) c.values_of_first-values.ensures in
     subst (λ (l : List Head). AreHeaded l c.truncate-2.new.self.items) (sym c.truncate.ensures.items) (subst (AreHeaded (take c.args.count s.heads.items)) (sym values) (AreHeaded-first c.args.count s.heads.items s.values.items c.self.invariant))
 
 pub returns : goal.returns
 returns c =
     let s = c.self.inside in
-    let whole : c.loop-place.place ≡ c.args.count = omega arith in
-    let many : c.loop-place.values ≡ count_values (take c.args.count s.heads.items) = c.loop-place.invariant ∙ ap (λ (n : ℕ). count_values (take n s.heads.items)) whole in
-    let values : c.truncate-2.new.self.items ≡ take (count_values (take c.args.count s.heads.items)) s.values.items = c.truncate-2.ensures.items ∙ ap (λ (n : ℕ). take n s.values.items) many in
+    let values : c.truncate-2.new.self.items ≡ take (count_values (take c.args.count s.heads.items)) s.values.items = c.truncate-2.ensures.items ∙ ap (λ (n : ℕ). take n s.values.items) c.values_of_first-values.ensures in
     ap₂ (λ (l : List Head) (v : List (Option ℤ)). dated_by l v) c.truncate.ensures.items values
     ∙ dated_by-first c.args.count s.heads.items s.values.items c.self.invariant
     ∙ ap (λ (es : List (ℕ × Row)). take c.args.count es) c.self.view_is

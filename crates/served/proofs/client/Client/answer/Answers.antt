@@ -9,7 +9,7 @@ use Rattle.reference.specs.CallViews.{texts_of}
 use Rattle.reference.specs.Commands.{Declare, Heartbeat, Register, Take}
 use Rattle.reference.specs.Replies as replies
 use Rattle.wire.specs.Printed.{answer_of}
-use Rattle.served.specs.Serving.{Carries, CarriesNamed, number_in}
+use Rattle.served.specs.Serving.{Carries, CarriesNamed, PeeksNamed, number_in}
 use Rattle.served.proofs.Requests.{carried, forgot, serves_as}
 use Rattle.served.proofs.client.Client.answer.Goals as goal
 
@@ -34,9 +34,9 @@ returns-in-Append g c =
 pub returns-in-Heartbeat : goal.returns-in-Heartbeat
 returns-in-Heartbeat g c =
     let same = to_z-of_z w64 c.number_in-number.result (record { sfits = c.number_in-number.type_inv }) ∙ c.number_in-number.ensures ∙ ap number_in c.in-Heartbeat.is in
-    serves_as (g.D.Drainer.drains c.args.self.now.drainer) c.args.seat.now c.heartbeat.new.seat c.args.request _ (answer_of c.heartbeat.result) c.in-Heartbeat.is
-    (subst (λ z. CarriesNamed FindsStream (string_bytes c.in-Heartbeat.stream) UnknownStream (λ n. Heartbeat n z) c.args.seat.now (answer_of c.heartbeat.result) c.heartbeat.new.seat) same
-    (rw c.as_str-in-Heartbeat.ensures.value at c.heartbeat.ensures))
+    serves_as (g.D.Drainer.drains c.args.self.now.drainer) c.args.seat.now c.close_instants.new.seat c.args.request _ (answer_of c.close_instants.result) c.in-Heartbeat.is
+    (subst (λ z. CarriesNamed FindsStream (string_bytes c.in-Heartbeat.stream) UnknownStream (λ n. Heartbeat n z) c.args.seat.now (answer_of c.close_instants.result) c.close_instants.new.seat) same
+    (rw c.as_str-in-Heartbeat.ensures.value at c.close_instants.ensures))
 
 pub returns-in-Take : goal.returns-in-Take
 returns-in-Take g c =
@@ -57,3 +57,9 @@ returns-in-Forget g c =
 pub returns-in-Plan : goal.returns-in-Plan
 returns-in-Plan g c =
     serves_as (g.D.Drainer.drains c.args.self.now.drainer) c.args.seat.now c.args.seat.now c.args.request _ (answer_of c.show_plan.result) c.in-Plan.is ((rw c.as_str-in-Plan.ensures.value at c.show_plan.ensures), refl)
+
+pub returns-in-Peek : goal.returns-in-Peek
+returns-in-Peek g c =
+    let same = to_z-of_z w64 c.number_in-number.result (record { sfits = c.number_in-number.type_inv }) ∙ c.number_in-number.ensures ∙ ap number_in c.in-Peek.is in
+    serves_as (g.D.Drainer.drains c.args.self.now.drainer) c.args.seat.now c.args.seat.now c.args.request _ (answer_of c.peek.result) c.in-Peek.is
+    ((subst (λ z. PeeksNamed (string_bytes c.in-Peek.query) z (answer_of c.peek.result)) same (rw c.as_str-in-Peek.ensures.value at c.peek.ensures)), refl)

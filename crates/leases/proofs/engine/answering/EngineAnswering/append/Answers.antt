@@ -4,7 +4,7 @@ use Rattle.std.specs.Prelude.{⊤}
 use Rattle.reference.specs.World.{Does, append_step}
 use Rattle.stream_store.specs.Beside.{IsLimit}
 use Rattle.laws_engine.specs.Calls.{appended}
-use Rattle.laws_engine.specs.Engines.{PlainEngine, answers_in, world_of}
+use Rattle.laws_engine.specs.Engines.{PlainEngine, answers_in, upto_by, world_of}
 use Rattle.laws_engine.proofs.PromiseLemmas.{keeps_its_promises}
 use Rattle.leases.specs.Queues.{LeavesQueues}
 use Rattle.leases.specs.Shown.{engine_in, world_in}
@@ -43,7 +43,7 @@ limit c =
 did : (c : goal.After-count_stored) → Does (λ (u : ⊤). u) (world_in c.self.inside.state) (append_step (world_in c.self.inside.state) c.args.stream c.args.rows.now) c.append-answer.result (world_in (over c))
 did c =
     let e = engine_in c.self.inside.state in
-    c.append-answer.ensures.does e.machine.queries (map answers_in e.queries) (limit c)
+    c.append-answer.ensures.does e.machine.queries (map answers_in e.queries) (upto_by e.machine.queries e.queries) (limit c)
 
 changes : (c : goal.After-count_stored) → OnOk c.append-answer.result (engine_in (after c) ≡ appended (engine_in c.self.inside.state) c.args.stream c.args.rows.now)
 changes c =

@@ -4,7 +4,7 @@ use Rattle.std.proofs.lemmas.Int.{to_z-of_z}
 use Rattle.reference.specs.CallViews.{texts_of}
 use Rattle.reference.specs.World.{Does, declare_step}
 use Rattle.laws_engine.specs.Calls.{declared}
-use Rattle.laws_engine.specs.Engines.{answers_in}
+use Rattle.laws_engine.specs.Engines.{answers_in, upto_by}
 use Rattle.laws_engine.proofs.PromiseLemmas.{keeps_its_promises}
 use Rattle.leases.specs.Shown.{engine_in, world_in}
 use Rattle.leases.specs.Sound.{IsSound}
@@ -22,7 +22,7 @@ after c = at_streams c.self.inside.state c.declare.new.self
 did : (c : goal.After-declare) → Does (λ (n : ℕ). n) (world_in c.self.inside.state) (declare_step (world_in c.self.inside.state) c.args.name.now (texts_of c.args.columns.now) c.args.from) c.declare.result (world_in (after c))
 did c =
     let e = engine_in c.self.inside.state in
-    simp (to_z-of_z w64 c.args.from c.ranges.from) at (c.declare.ensures.does e.machine.queries (map answers_in e.queries))
+    simp (to_z-of_z w64 c.args.from c.ranges.from) at (c.declare.ensures.does e.machine.queries (map answers_in e.queries) (upto_by e.machine.queries e.queries))
 
 changes : (c : goal.After-declare) → OnOk c.declare.result (engine_in (after c) ≡ declared (engine_in c.self.inside.state) c.args.name.now (texts_of c.args.columns.now) c.args.from)
 changes c = declare_changes c.self.inside.state c.declare.new.self c.args.name.now (texts_of c.args.columns.now) c.args.from c.declare.result (did c)

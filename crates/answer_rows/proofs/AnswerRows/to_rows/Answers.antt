@@ -1,0 +1,10 @@
+use Rattle.std.proofs.Common.{w64, rules, FitsSigned}
+use Rattle.std.proofs.lemmas.Int.{to_z-of_z}
+use Rattle.answer_rows.proofs.RowLemmas.{rows-pushed}
+use Rattle.answer_rows.proofs.AnswerRows.to_rows.Goals as goal
+
+pub loop-number-preserved : goal.loop-number-preserved
+loop-number-preserved c =
+    let fits : FitsSigned w64 c.in-Some.at = search rules in
+    rows-pushed c.loop-number.rows.items c.push.new.self.items c.args.self.now c.loop-number.number c.in-Some.at c.in-Some.values.now c.row_of.result
+    (simp (to_z-of_z w64 c.in-Some.at fits) at c.in_ok-push-in-Some.ensures.items) c.row_of.ensures c.loop-number.invariant c.in-Some.ensures.answer

@@ -1,0 +1,31 @@
+-- Windows that neither gain nor lose a row for some instants.
+use Rattle.std.proofs.Common.{◌≡◌, ℕ, zero, suc, ◌+◌, ◌-◌, ◌*◌, ◌/◌, ◌==◌, ◌<◌, ◌≤◌, Bool, true, false, cond, nat_lt, Option, Some, None, List, [], ◌∷◌, map, take, refl, ap, sym, ◌∙◌, arith}
+use Rattle.std.specs.List.{filter}
+use Rattle.std.proofs.lemmas.Bool.{cases_lt, ne_eqb}
+use Rattle.std.proofs.lemmas.Bool.Decides.{nat_tests}
+use Rattle.values.specs.Row.{Row}
+use Rattle.windows.specs.Range.{is_past}
+use Rattle.windows.specs.Slide.{moves}
+
+not_below : (i k r : ℕ) → nat_lt i r ≡ false → k ≤ r → nat_lt i k ≡ false
+not_below i k r is le = grind (arith, nat_tests)
+
+-- no row is before an instant, so none is before an earlier one
+pub none_before : (held : List (ℕ × Row)) (k r : ℕ) → take 0 (map (λ h. h.1) held) ≡ map (λ h. h.1) (filter (λ h. nat_lt h.0 r) held) → k ≤ r → filter (λ h. nat_lt h.0 k) held ≡ []
+none_before [] k r e le = refl
+none_before (h ∷ held) k r e le = here (nat_lt h.0 r) refl e (λ d. none_before held k r d le)
+  where
+    here : (b : Bool) → nat_lt h.0 r ≡ b → [] ≡ map (λ h. h.1) (cond b (h ∷ filter (λ h. nat_lt h.0 r) held) (filter (λ h. nat_lt h.0 r) held))
+        → ([] ≡ map (λ h. h.1) (filter (λ h. nat_lt h.0 r) held) → filter (λ h. nat_lt h.0 k) held ≡ []) → filter (λ h. nat_lt h.0 k) (h ∷ held) ≡ []
+    here true is e rest = absurd (cc)
+    here false is e rest = rw (not_below h.0 k r is le) (rest e)
+
+pub none_at_zero : (held : List (ℕ × Row)) (k : ℕ) → k ≤ 0 → filter (λ h. nat_lt h.0 k) held ≡ []
+none_at_zero [] k le = refl
+none_at_zero (h ∷ held) k le =
+    let no : nat_lt h.0 k ≡ false = grind (arith, nat_tests) in
+    rw no (none_at_zero held k le)
+
+pub none_past : (t : ℕ) (held : List (ℕ × Row)) → filter (is_past None t) held ≡ []
+none_past t [] = refl
+none_past t (h ∷ held) = none_past t held

@@ -1,0 +1,10 @@
+use Rattle.std.proofs.Common.{refl}
+use Rattle.wire.specs.Printed.{line_of, rows}
+use Rattle.wire.proofs.Printing.{writes_both, write_text}
+use Rattle.wire.proofs.reply.add_taken.Goals as goal
+
+pub returns : goal.returns
+unfolding line_of
+returns g c =
+    let all = writes_both (writes_both c.add.ensures c.add_rows.ensures) c.add-2.ensures in
+    write_text (line_of (rows c.args.taken.now)) refl all

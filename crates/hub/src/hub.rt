@@ -75,8 +75,8 @@ impl Hub {
         }
     }
 
-    // Gives the lock back, and wakes one of those who wait, if there is work. Whoever is woken wakes
-    // others if it brings a turn back and more is ready.
+    // Gives the lock back, and wakes one of those who wait, if there is work. The one that wakes
+    // wakes others, if it brings a turn back and more is ready.
     pub(crate) fn release_to_one(&self, locked: MutexGuard<'_, Locked>, wakes: bool) {
         drop(locked);
         if wakes {

@@ -17,9 +17,9 @@ const RECEIPTS: usize = 16;
 /// holds `RECEIPTS` receipts. Then the hub forgets by itself if that is due. Once the seat differed
 /// from the history, it does neither: a forget would take what shows it.
 ///
-/// A settle wakes a worker if the client may have left work: it closed instants or registered a
-/// query, and no drain came to its end since. A look wakes one if any work is left. So whoever asks
-/// how far a query is also sees to it that the work goes on.
+/// A settle wakes a worker if the client may have left work. It may have: it closed instants or
+/// registered a query, and no drain came to its end since. A look wakes the workers if any work is
+/// left. So whoever asks how far a query is also sees to it that the work goes on.
 #[derive(Drop)]
 pub(crate) struct Keeper<'a, 'b, R, D: Drainer> {
     /// Answers the requests.
@@ -111,9 +111,9 @@ impl<R: Wait, D: Drainer> Keeper<'_, '_, R, D> {
         }
     }
 
-    // Settles the seat, and wakes a worker if the client may have left work. Then the hub forgets if
-    // that is due. If the receipts differ from the history, it is noted and they stay. From then on,
-    // and without receipts, it only wakes.
+    // Settles the seat, and wakes a worker if the client may have left work. Then the hub forgets
+    // if that is due. If the receipts differ from the history, it is noted and they stay. From then
+    // on, and without receipts, it only wakes.
     fn settle(&self, seat: &mut Seat)
         ensures { MaySettle seat.old seat.new }
     {

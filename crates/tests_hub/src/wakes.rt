@@ -1,7 +1,7 @@
 //! Tests that a heartbeat wakes a worker that waits. After one that wakes nobody, a settle does,
-//! and so does a status. So a connection that closes instants and does not drain wakes a worker, and
-//! so does one that only asks for the status. A pool that waits for a turn is woken when the turn's query is dropped,
-//! and when the turn is given up or comes back.
+//! and so does a status. So a connection that closes instants and does not drain wakes a worker,
+//! and so does one that only asks for the status. A pool that waits for a turn is woken when the
+//! turn's query is dropped, and when the turn is given up or comes back.
 
 use crate::agreement::next_done;
 use crate::fixture::{filled, ready};

@@ -177,8 +177,8 @@ impl Hub {
 
     /// Does what `settle` does, but wakes a thread only if `wakes` says so: if the caller may have
     /// left work for which nobody was woken. Then, if the seat agreed, does what `forget_if_due`
-    /// does, before other calls get the lock. A forget that ran out of memory is tried again when it
-    /// is due again. With `values` 0 nothing is forgotten.
+    /// does, before other calls get the lock. A forget that ran out of memory is tried again when
+    /// it is due again. With `values` 0 nothing is forgotten.
     ///
     /// Example: `a_settle_forgets_if_that_is_due` in crates/uses/src/hubs.rt.
     pub fn settle_and_forget<R: Wait>(

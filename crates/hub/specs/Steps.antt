@@ -16,6 +16,7 @@ use Rattle.run_queue.specs.Slots.{first_of}
 use Rattle.laws_engine.specs.Engines.{PlainEngine, world_of}
 use Rattle.laws_engine.specs.Openings.{forgotten}
 use Rattle.laws_engine.specs.Promises.{AreCompleteUpto, HasAllWaiting}
+use Rattle.leases.specs.ByQuery.{RunsByQuery}
 use Rattle.leases.specs.Drains.{LeavesOthers, RunsTurns, as_drained}
 use Rattle.leases.specs.Openings.{opening_in}
 use Rattle.leases.specs.Looks.{IsPending, WaitsAt, status_in_engine}
@@ -213,6 +214,17 @@ pub record Drains (old : PlainLocked) (rows : ℕ) (result : Result ⊤ Fault)
     (new : PlainLocked) : Type 0 where
   pub legal : IsReplayed old
   pub runs : RunsTurns (engine_at old) rows result (engine_at new)
+  pub others : LeavesOthers (engine_at old) result (engine_at new)
+  pub machine : (engine_at new).machine ≡ (engine_at old).machine
+  pub idle : OnOk result (first_of (engine_at new).slots ≡ None)
+  pub all : OnOk result (HasAllWaiting (engine_at new))
+
+-- A DRAIN QUERY BY QUERY: the same, except that the turns of different queries run in any order,
+-- also at the same time. Each is of an operator that might be leased
+pub record DrainsByQuery (old : PlainLocked) (rows : ℕ) (result : Result ⊤ Fault)
+    (new : PlainLocked) : Type 0 where
+  pub legal : IsReplayed old
+  pub runs : RunsByQuery (engine_at old) rows result (engine_at new)
   pub others : LeavesOthers (engine_at old) result (engine_at new)
   pub machine : (engine_at new).machine ≡ (engine_at old).machine
   pub idle : OnOk result (first_of (engine_at new).slots ≡ None)

@@ -162,7 +162,7 @@ pub comes_machine : (e1 e2 : PlainEngine) (l : Lease) (q : Registered) (p p2 : P
 comes_machine e1 e2 l q p p2 (inl h) = ap (λ e. e.machine) h.1
 comes_machine e1 e2 l q p p2 (inr h) = ap (λ e. e.machine) h.1
 
-comes_next : (e1 e2 : PlainEngine) (l : Lease) (q : Registered) (p p2 : PlainQuery) → ComesBack e1 l q p p2 e2 → e2.next ≡ e1.next
+pub comes_next : (e1 e2 : PlainEngine) (l : Lease) (q : Registered) (p p2 : PlainQuery) → ComesBack e1 l q p p2 e2 → e2.next ≡ e1.next
 comes_next e1 e2 l q p p2 (inl h) = ap (λ e. e.next) h.1
 comes_next e1 e2 l q p p2 (inr h) = ap (λ e. e.next) h.1
 

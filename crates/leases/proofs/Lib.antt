@@ -53,3 +53,11 @@ mod ReadLemmas
 mod MarkLemmas
 mod RestartLemmas
 mod GoingLemmas
+pub mod AloneLemmas
+pub mod ToldAllLemmas
+pub mod JobLemmas
+pub mod ByQueryLemmas
+pub mod JobRunLemmas
+pub mod LendLemmas
+pub mod LendAllLemmas
+pub mod SharesLemmas

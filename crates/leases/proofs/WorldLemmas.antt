@@ -70,7 +70,7 @@ module _ (e : PlainEngine) (g : GoodEngine e) (whole : IsWholeEngine e) (idle : 
   waits_at n q (Broken answers upto) r k d = absurd (whole.unbroken n answers upto k)
   waits_at n q Dropped r k d = untaken_dropped e.machine q d
 
-  all_wait : map answers_in e.queries ≡ map (untaken e.machine) e.machine.queries
+  pub all_wait : map answers_in e.queries ≡ map (untaken e.machine) e.machine.queries
   all_wait = all_in e.machine e.machine.queries e.queries g.many (λ n q r. waits_at n q (remains_at e n) r refl (gone_at e.machine.queries e.queries n q gone r))
 
   -- and each is complete up to the first instant that is not closed
@@ -79,7 +79,7 @@ module _ (e : PlainEngine) (g : GoodEngine e) (whole : IsWholeEngine e) (idle : 
   reached_at n q (Broken answers upto) r k d = absurd (whole.unbroken n answers upto k)
   reached_at n q Dropped r k d = ends_dropped e.machine q d
 
-  all_reached : upto_by e.machine.queries e.queries ≡ map (ends_at e.machine) e.machine.queries
+  pub all_reached : upto_by e.machine.queries e.queries ≡ map (ends_at e.machine) e.machine.queries
   all_reached = upto_all e.machine e.machine.queries e.queries g.many (λ n q r. reached_at n q (remains_at e n) r refl (gone_at e.machine.queries e.queries n q gone r))
 
 -- A STEP that is done, or refused
@@ -123,7 +123,7 @@ waits_next e begins n q at =
 
 -- A DRAIN
 module _ (old new : PlainEngine) (rows : ℕ) (machine : new.machine ≡ old.machine) where
-  drain_done : drain_fault rows ≡ None → map answers_in new.queries ≡ map (untaken new.machine) new.machine.queries → upto_by new.machine.queries new.queries ≡ map (ends_at new.machine) new.machine.queries
+  pub drain_done : drain_fault rows ≡ None → map answers_in new.queries ≡ map (untaken new.machine) new.machine.queries → upto_by new.machine.queries new.queries ≡ map (ends_at new.machine) new.machine.queries
       → (u : ⊤) → drain_step (world_of old) rows ≡ (Ok u, world_of new)
   unfolding drain_step
   drain_done none all ends u =
@@ -136,11 +136,11 @@ module _ (old new : PlainEngine) (rows : ℕ) (machine : new.machine ≡ old.mac
   unfolding drain_step
   drain_lacks none = may_lack (drain_fault rows) (world_of old) _ tt none
 
-  drain_refused : (f : Fault) → drain_fault rows ≡ Some f → new ≡ old → drain_step (world_of old) rows ≡ (Err f, world_of new)
+  pub drain_refused : (f : Fault) → drain_fault rows ≡ Some f → new ≡ old → drain_step (world_of old) rows ≡ (Err f, world_of new)
   unfolding drain_step
   drain_refused f some same = step_refused (drain_fault rows) (world_of old) _ (world_of new) tt f some (ap world_of same)
 
-  stops_early : GoodEngine new → drain_fault rows ≡ None → StopsEarly (world_of old) (drain_step (world_of old) rows) (world_of new)
+  pub stops_early : GoodEngine new → drain_fault rows ≡ None → StopsEarly (world_of old) (drain_step (world_of old) rows) (world_of new)
   stops_early g none = record { machine = machine; lacks = drain_lacks none; next = λ before. waits_next new (keeps_its_promises new g).begins }
 
   drain_stops : GoodEngine new → (f : Fault) → RunsTurns old rows (Err f) new → Drains (world_of old) (drain_step (world_of old) rows) (Err f) (world_of new)

@@ -20,3 +20,6 @@ pub mod Openings
 pub mod Passing
 pub mod Going
 pub mod Keeping
+pub mod Alone
+pub mod ByQuery
+pub mod Jobs

@@ -4,6 +4,7 @@ mod answering;
 mod forgets;
 mod looks;
 mod takes;
+mod threads;
 mod turns;
 
 use crate::state::State;

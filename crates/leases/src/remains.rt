@@ -3,6 +3,7 @@ ghost use Rattle.std.specs.Prelude.{◌≡◌, IfOk};
 ghost use Rattle.laws_engine.specs.Engines.{Broken, Running, answers_in};
 ghost use Rattle.laws_queries.specs.Queries.{PlainQuery};
 ghost use Rattle.leases.specs.Looks.{is_broken};
+ghost use Rattle.leases.specs.Readers.{runs};
 ghost use Rattle.leases.specs.Views.{remains_of, waiting_in};
 
 use crate::reach::Reach;
@@ -41,6 +42,17 @@ impl Remains {
         match self {
             Remains::Running(_) => false,
             Remains::Broken(_, _) => true,
+            Remains::Dropped => false,
+        }
+    }
+
+    /// Returns whether the query runs.
+    pub(crate) fn is_running(&self) -> bool
+        ensures { result ≡ runs (remains_of self.now) }
+    {
+        match self {
+            Remains::Running(_) => true,
+            Remains::Broken(_, _) => false,
             Remains::Dropped => false,
         }
     }

@@ -1,16 +1,19 @@
 //! Keeps the fields of an engine, without an invariant.
 
 mod backs;
+mod by_query;
 mod drain;
 mod finish;
 mod flats;
 mod forget;
 mod heartbeats;
+mod jobs;
 mod lease;
 mod looks;
 mod opening;
 mod passing;
 mod register;
+mod shares;
 mod status;
 mod takes;
 

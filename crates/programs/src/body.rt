@@ -171,7 +171,7 @@ fn refuse_to_forget<E: Sink>(errors: &mut E) -> u8
 ///
 /// It does `run_over` an engine without streams or queries, by turns of at most as many rows as the
 /// words say. The engine is the plain one if the words ask for it. If they ask for workers, a hub
-/// with one seat answers, and a pool of that many threads runs its drains.
+/// with one seat answers, and at most that many threads run a drain.
 ///
 /// The status is that of `run_over`. It is 0, 1 or 3 after help, which goes to the sink. It is 2
 /// for a wrong command line, and then `errors` get some text. If the words ask for no run, nothing

@@ -34,7 +34,8 @@ pub(crate) trait Drainer {
         ensures { drains self.now (answer_of result) };
 }
 
-/// Drains until no turn is left or out: in place, and then by a pool of `workers` threads if others
+/// Drains until no turn is left or out. It does so in place, each query by itself, in at most
+/// `workers` threads if threads pay. Then a pool of so many threads runs what is left, if others
 /// hold turns.
 #[derive(Drop)]
 pub(crate) struct PoolDrainer<'a, R> {
@@ -102,16 +103,35 @@ fn drain_in_place<R: Wait>(rt: &R, hub: &Hub, rows: u32) -> Result<(), Fault>
     unreachable!()
 }
 
+// Runs turns in place, under the lock: turn by turn, or query by query in so many threads.
+fn drain_by<R: Threads + Wait + Sync>(
+    rt: &R,
+    hub: &Hub,
+    workers: u64,
+    rows: u32,
+) -> Result<(), Fault> {
+    if workers < 2 {
+        return drain_in_place(rt, hub, rows);
+    }
+    hub.drain_by_query(rt, rows, workers as usize)
+}
+
 // Runs turns in place, under the lock: a turn costs less there than in another thread. Returns the
 // reply, or nothing if a pool has to run what is left.
-fn run_in_place<R: Wait>(rt: &R, alloc: Global, hub: &Hub, workers: u64, rows: u32) -> Option<Reply>
+fn run_in_place<R: Threads + Wait + Sync>(
+    rt: &R,
+    alloc: Global,
+    hub: &Hub,
+    workers: u64,
+    rows: u32,
+) -> Option<Reply>
     requires { IsTurnSize rows }
     ensures { IfSome result (λ reply. PoolDrains workers rows (answer_of reply)) }
 {
     if workers == 0 || workers > MAX_WORKERS {
         return None;
     }
-    if let Err(Fault::OutOfMemory) = drain_in_place(rt, hub, rows) {
+    if let Err(Fault::OutOfMemory) = drain_by(rt, hub, workers, rows) {
         return Some(Reply::Refused(Fault::OutOfMemory));
     }
     match hub.lease_or_rest(rt, rows) {

@@ -8,6 +8,8 @@
 #[cfg(test)]
 mod agreement;
 #[cfg(test)]
+mod by_query;
+#[cfg(test)]
 mod fixture;
 #[cfg(test)]
 mod forgets;

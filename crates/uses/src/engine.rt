@@ -5,9 +5,10 @@ use crate::stop::Stop;
 use leases::{Engine, Leased};
 use reference::{Answering, Chart, Fault, NewRows};
 use std::alloc::{AllocError, Global};
+use std::thread::Threads;
 
 /// Shows what a client of an engine calls.
-pub(crate) fn show_calls<R: Print>(rt: &R, alloc: Global) -> Result<(), Stop> {
+pub(crate) fn show_calls<R: Print + Threads + Sync>(rt: &R, alloc: Global) -> Result<(), Stop> {
     an_engine_answers_a_query(rt, alloc)?;
     a_stream_opens_at_an_instant(rt, alloc)?;
     a_text_at_fault_is_refused(rt, alloc)?;
@@ -16,6 +17,7 @@ pub(crate) fn show_calls<R: Print>(rt: &R, alloc: Global) -> Result<(), Stop> {
     a_heartbeat_closes_instants(rt, alloc)?;
     a_drain_answers_the_same_by_any_turns(rt, alloc)?;
     a_drain_stops_after_some_turns(rt, alloc)?;
+    a_drain_takes_query_by_query(rt, alloc)?;
     a_gap_costs_few_turns(rt, alloc)?;
     a_take_returns_the_first_answers(rt, alloc)?;
     a_take_returns_a_flat_list(rt, alloc)?;
@@ -178,6 +180,23 @@ fn a_drain_stops_after_some_turns<R: Print>(rt: &R, alloc: Global) -> Result<(),
     }
     let answers = engine.take(0, 100)?;
     println!(rt; "a_drain_stops_after_some_turns: {answers:?}")?;
+    Ok(())
+}
+
+/// Shows a drain that takes query by query, in at most four threads.
+///
+/// `p` asks for all rows, `q` for those above 3. So few rows wait that no thread is started. However
+/// many are, the answers are those of `drain`.
+fn a_drain_takes_query_by_query<R: Print + Threads + Sync>(
+    rt: &R,
+    alloc: Global,
+) -> Result<(), Stop> {
+    let mut engine = engine_with(alloc, "Select Rstream(a) From S [Now] Where a > 3")?;
+    engine.query("p", NOW, None)?;
+    fill(alloc, &mut engine)?;
+    engine.drain_by_query(rt, 256, 4)?;
+    let (q, p) = (engine.take(0, 100)?, engine.take(1, 100)?);
+    println!(rt; "a_drain_takes_query_by_query: q {q:?}, p {p:?}")?;
     Ok(())
 }
 

@@ -10,10 +10,14 @@ use leases::Leased;
 use reference::Fault;
 use std::alloc::{AllocError, Global};
 use std::sync::Wait;
+use std::thread::Threads;
 use workers::{NoGate, help};
 
 /// Shows what clients of a hub call.
-pub(crate) fn show_calls<R: Print + Wait>(rt: &R, alloc: Global) -> Result<(), Stop> {
+pub(crate) fn show_calls<R: Print + Threads + Wait + Sync>(
+    rt: &R,
+    alloc: Global,
+) -> Result<(), Stop> {
     a_hub_answers_two_seats(rt, alloc)?;
     an_opening_sets_limits(rt, alloc)?;
     a_drain_lets_others_in(rt, alloc)?;

@@ -1,8 +1,9 @@
 //! Answers what workers call. They need no seat.
 ghost use Rattle.std.specs.Prelude.{◌≡◌, IfErr, IfOk, MatchOption, Ok, false};
 ghost use Rattle.leases.specs.declared.leased.Leased.TheVariants.{Idle};
-ghost use Rattle.hub.specs.Steps.{PlainLocked, Drains, DrainsSome, Ends, Forgets, ForgetsWhenDue};
-ghost use Rattle.hub.specs.Steps.{GivesUp, Hands, HasEnded, IsReady, Lends, Rests, Withholds};
+ghost use Rattle.hub.specs.Steps.{PlainLocked, Drains, DrainsByQuery, DrainsSome, Ends, Forgets};
+ghost use Rattle.hub.specs.Steps.{ForgetsWhenDue, GivesUp, Hands, HasEnded, IsReady, Lends, Rests};
+ghost use Rattle.hub.specs.Steps.{Withholds};
 ghost use Rattle.hub.specs.Tries.{MatchLeaseRest, MatchLeaseWait};
 
 use crate::hub::{Hub, LeaseRest, LeaseWait};
@@ -10,6 +11,7 @@ use crate::locked::{Rested, Waited};
 use leases::Leased;
 use reference::Fault;
 use std::sync::Wait;
+use std::thread::Threads;
 use turn::Done;
 
 impl Hub {
@@ -63,6 +65,30 @@ impl Hub {
     {
         let mut locked = self.locked.lock(rt);
         let answer = locked.drain(rows);
+        locked.note_change();
+        let wakes = answer.is_err() || locked.has_ready();
+        self.release(locked, wakes);
+        answer
+    }
+
+    /// Drains in place, under the lock, each query by itself. If two queries or more are ready and
+    /// many rows wait, it does so in at most `threads` threads, which end before this returns. Turns
+    /// that are out stay out. Other calls wait meanwhile.
+    ///
+    /// # Errors
+    /// Those of `drain`. If a query runs out of memory, the turns of the others stay.
+    ///
+    /// Example: `a_hub_drains_in_threads` in crates/uses/src/hubs.rt.
+    pub fn drain_by_query<R: Threads + Wait + Sync>(
+        &self,
+        rt: &R,
+        rows: u32,
+        threads: usize,
+    ) -> Result<(), Fault>
+        ensures { (old : PlainLocked) × (new : PlainLocked) × DrainsByQuery old rows result new }
+    {
+        let mut locked = self.locked.lock(rt);
+        let answer = locked.drain_by_query(rt, rows, threads);
         locked.note_change();
         let wakes = answer.is_err() || locked.has_ready();
         self.release(locked, wakes);

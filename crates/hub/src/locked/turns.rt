@@ -1,13 +1,14 @@
 //! Answers what workers call. None of it changes the history.
 ghost use Rattle.std.specs.Prelude.{◌≡◌, ◌<◌, IfOk, IfErr, IsTrue, length, false};
-ghost use Rattle.hub.specs.Steps.{Drains, DrainsSome, Ends, GivesUp, Hands, HasEnded, IsIdle};
-ghost use Rattle.hub.specs.Steps.{IsSame, Lends, Rests, SeesReady, Withholds, ended, engine_at};
-ghost use Rattle.hub.specs.Steps.{with_engine};
+ghost use Rattle.hub.specs.Steps.{Drains, DrainsByQuery, DrainsSome, Ends, GivesUp, Hands};
+ghost use Rattle.hub.specs.Steps.{HasEnded, IsIdle, IsSame, Lends, Rests, SeesReady, Withholds};
+ghost use Rattle.hub.specs.Steps.{ended, engine_at, with_engine};
 ghost use Rattle.hub.specs.Tries.{MatchRested, MatchWaited};
 
 use crate::locked::{Locked, Rested, Waited};
 use leases::Leased;
 use reference::{Answering, Fault};
+use std::thread::Threads;
 use turn::Done;
 
 impl Locked {
@@ -52,6 +53,24 @@ impl Locked {
         ensures drains { Drains self.old rows result self.new }
     {
         self.engine.drain(rows)
+    }
+
+    /// Drains in place, as `Engine::drain_by_query` does: each query by itself, in at most `threads`
+    /// threads, which end before this returns. Turns that are out stay out.
+    ///
+    /// # Errors
+    /// Those of `drain`. If a query runs out of memory, the turns of the others stay.
+    #[tactic(auto, unfolding(crate::specs::Steps::engine_at))]
+    pub fn drain_by_query<R: Threads + Sync>(
+        &mut self,
+        rt: &R,
+        rows: u32,
+        threads: usize,
+    ) -> Result<(), Fault>
+        ensures step { self.new ≡ with_engine self.old self.new.engine }
+        ensures drains { DrainsByQuery self.old rows result self.new }
+    {
+        self.engine.drain_by_query(rt, rows, threads)
     }
 
     /// Drains some turns in place, as `Engine::drain_some` does: at most `turns` turns of at most

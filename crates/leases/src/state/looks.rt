@@ -117,7 +117,7 @@ impl State {
 }
 
 /// Returns the slope of an operator of a registered query.
-fn slope_of(query: &Registration, operator: usize) -> Slope
+pub(crate) fn slope_of(query: &Registration, operator: usize) -> Slope
     requires { operator < length (query_of query.now).nodes }
     ensures { result ≡ slope_at (query_of query.now) operator }
 {

@@ -19,7 +19,7 @@ use run_queue::Slot;
 use std::alloc::AllocError;
 
 /// Says how many instants are worth a pass; fewer go turn by turn.
-const FEW_INSTANTS: u64 = 4;
+pub(crate) const FEW_INSTANTS: u64 = 4;
 
 impl State {
     /// Lets the first slot's query pass the instants at which it has nothing to do. It does so if
@@ -104,7 +104,7 @@ impl State {
     }
 
     /// Lists the slots of a query's operators.
-    fn query_slots(&self, query: u64) -> Result<Vec<Slot>, AllocError>
+    pub(crate) fn query_slots(&self, query: u64) -> Result<Vec<Slot>, AllocError>
         requires { MayLookAt (engine_in self.now) query }
         ensures { IfOk result (λ slots. AreSlotsOf (engine_in self.now) query slots.items) }
     {

@@ -1,0 +1,267 @@
+-- A drain that takes query by query goes through turns of operators that might be leased, whatever their slopes.
+use Rattle.std.proofs.Common.{◌≡◌, ◌≢◌, ◌≤◌, ◌+◌, ◌++◌, ◌⊎◌, ⊎_elim, inl, inr, ℕ, true, false, Some, None, Result, Ok, Err, OnOk, List, [], ◌∷◌, length, map, refl, sym, ap, ◌∙◌, subst, arith}
+use Rattle.std.specs.Prelude.{⊤}
+use Rattle.std.specs.List.{AllByRecursion}
+use Rattle.values.specs.Row.{Row}
+use Rattle.reference.specs.World.{Drains, drain_fault, drain_step}
+use Rattle.reference.specs.declared.fault.Fault.{Fault}
+use Rattle.reference.specs.declared.fault.Fault.TheVariants as fault
+use Rattle.reference.specs.declared.fault.Fault.TheVariants.{Query, BadName, NameTaken, BadColumns, TooMany, UnknownStream, UnknownQuery, BadWidth, ValueRange, InstantRange, Late, Backward, Leap, StreamFull, BadLimit, UnknownLease, Stranger, TooManyLeases, HistoryFull, OutOfMemory, Foreign}
+use Rattle.run_queue.specs.Slots.{first_of}
+use Rattle.turn.specs.declared.turns.Turn.{Turn}
+use Rattle.laws_engine.specs.Calls.{of_others}
+use Rattle.laws_engine.specs.Engines.{Broken, Dropped, GoodEngine, Lease, PlainEngine, PlainRemains, Running, remains_at, world_of}
+use Rattle.laws_engine.specs.Histories.{Breaks, Finishes}
+use Rattle.laws_engine.specs.Orders.{SameKind, SameKinds}
+use Rattle.laws_engine.proofs.HistoryLemmas.{step_good}
+use Rattle.laws_engine.proofs.LeaseLemmas.{leasable_ready, ready_good}
+use Rattle.laws_engine.proofs.OrderLemmas.{finish_kinds, kind_on, kind_same, pass_kinds}
+use Rattle.laws_engine.proofs.PassingLemmas.{pass_good}
+use Rattle.leases.specs.ByQuery.{AnyStep, FailedAny, GoesOutOfAny, HaveRunAny, IsAnyStep, PassedAny, RanAny, RunsByQuery, SomeWereDone, SomeWereTried, has_failed}
+use Rattle.leases.specs.Drains.{HasBrokenOne, HasWanted, HaveRun, IsDone, LeavesOthers, Passed, Ran, RunsTurns, Step}
+use Rattle.leases.specs.Sound.{is_gone}
+use Rattle.leases.specs.Turns.{IsFull, IsTurnOf}
+use Rattle.leases.specs.Views.{lease_of}
+use Rattle.leases.specs.Whole.{IsWholeEngine}
+use Rattle.leases.specs.declared.limits.TheConstants.{LEASE_NUMBERS}
+use Rattle.leases.proofs.DrainLemmas.{comes_machine, comes_next}
+use Rattle.leases.proofs.NumberLemmas.{HasGivenMore}
+use Rattle.leases.proofs.WorldLemmas.{all_reached, all_wait, drain_done, drain_refused, stops_early}
+
+-- STEPS AND STEPS
+any_on : (rows : ℕ) (e1 e2 e3 : PlainEngine) (steps later : List AnyStep) → HaveRunAny rows e1 steps e2 → HaveRunAny rows e2 later e3 → HaveRunAny rows e1 (steps ++ later) e3
+any_on rows e1 e2 e3 [] later ran next = subst (λ e. HaveRunAny rows e later e3) ran next
+any_on rows e1 e2 e3 (s ∷ steps) later ran next = (ran.0, (ran.1.0, any_on rows ran.0 e2 e3 steps later ran.1.1 next))
+
+both_done : (steps later : List AnyStep) → AllByRecursion (λ s. has_failed s ≡ false) steps → AllByRecursion (λ s. has_failed s ≡ false) later → AllByRecursion (λ s. has_failed s ≡ false) (steps ++ later)
+both_done [] later a b = b
+both_done (s ∷ steps) later a b = (a.0, both_done steps later a.1 b)
+
+pub done_none : (rows : ℕ) (e e2 : PlainEngine) → e2 ≡ e → SomeWereDone rows e e2
+done_none rows e e2 same = ([], (same, tt))
+
+pub done_on : (rows : ℕ) (e1 e2 e3 : PlainEngine) → SomeWereDone rows e1 e2 → SomeWereDone rows e2 e3 → SomeWereDone rows e1 e3
+done_on rows e1 e2 e3 one two = (one.0 ++ two.0, (any_on rows e1 e2 e3 one.0 two.0 one.1.0 two.1.0, both_done one.0 two.0 one.1.1 two.1.1))
+
+pub tried_on : (rows : ℕ) (e1 e2 e3 : PlainEngine) → SomeWereTried rows e1 e2 → SomeWereTried rows e2 e3 → SomeWereTried rows e1 e3
+tried_on rows e1 e2 e3 one two = (one.0 ++ two.0, any_on rows e1 e2 e3 one.0 two.0 one.1 two.1)
+
+pub tried : (rows : ℕ) (e e2 : PlainEngine) → SomeWereDone rows e e2 → SomeWereTried rows e e2
+tried rows e e2 h = (h.0, h.1.0)
+
+-- A TURN OF GREATEST SLOPE is one of an operator that might be leased
+goes_of_any : (rows : ℕ) (e : PlainEngine) (t : Turn) (out : PlainEngine) → GoodEngine e → IsTurnOf e rows t out → GoesOutOfAny rows e (lease_of t) out
+goes_of_any rows e t out good h = (h.query, (h.plain, (record { ready = leasable_ready e (lease_of t) h.query h.plain h.slot good h.leasable; cut = h.cut }, h.after)))
+
+out_good : (rows : ℕ) (e out : PlainEngine) (l : Lease) → GoodEngine e → GoesOutOfAny rows e l out → GoodEngine out
+out_good rows e out l good h = subst GoodEngine (sym h.1.1.1) (ready_good e l h.0 h.1.0 good h.1.1.0.ready)
+
+pub any_good : (rows : ℕ) (s : AnyStep) (e e2 : PlainEngine) → GoodEngine e → IsAnyStep rows e s e2 → GoodEngine e2
+any_good rows (RanAny l) e e2 good h = step_good h.0 e2 (Finishes l) (out_good rows e h.0 l good h.1.0) h.1.1
+any_good rows (PassedAny n b) e e2 good h = pass_good e n b e2 good h
+any_good rows (FailedAny l) e e2 good h = step_good h.0 e2 (Breaks l) (out_good rows e h.0 l good h.1.0) h.1.1
+
+one_any : (rows : ℕ) (s : Step) (e e2 : PlainEngine) → GoodEngine e → IsDone rows e s e2 → (s2 : AnyStep) × (IsAnyStep rows e s2 e2 × (has_failed s2 ≡ false))
+one_any rows (Ran t) e e2 good h = (RanAny (lease_of t), ((h.0, (goes_of_any rows e t h.0 good h.1.0, h.1.1)), refl))
+one_any rows (Passed n b) e e2 good h = (PassedAny n b, (h, refl))
+
+all_any : (rows : ℕ) (steps : List Step) (e e2 : PlainEngine) → GoodEngine e → HaveRun rows e steps e2 → GoodEngine e2 × SomeWereDone rows e e2
+all_any rows [] e e2 good h = (subst GoodEngine (sym h) good, ([], (h, tt)))
+all_any rows (s ∷ steps) e e2 good h =
+    let one = one_any rows s e h.0 good h.1.0 in
+    let later = all_any rows steps h.0 e2 (any_good rows one.0 e h.0 good one.1.0) h.1.1 in
+    (later.0, (one.0 ∷ later.1.0, ((h.0, (one.1.0, later.1.1.0)), (one.1.1, later.1.1.1))))
+
+wanted_any : (rows : ℕ) (e e2 : PlainEngine) → GoodEngine e → HasWanted rows e e2 → SomeWereTried rows e e2
+wanted_any rows e e2 good (inl h) = ([], h.2)
+wanted_any rows e e2 good (inr h) = (FailedAny (lease_of h.0) ∷ [], (e2, ((h.1.0, (goes_of_any rows e h.0 h.1.0 good h.1.1.0, h.1.1.1)), refl)))
+
+-- THE WHOLE DRAIN: query by query, and then turn by turn
+both_limits : (rows : ℕ) → drain_fault rows ≡ None → drain_fault rows ≡ Some BadLimit → ⊥
+both_limits rows a b = absurd (let bad : None ≡ Some BadLimit = sym a ∙ b in cc)
+
+pub drained : (old mid new : PlainEngine) (rows : ℕ) (r : Result ⊤ Fault) → GoodEngine mid → drain_fault rows ≡ None → SomeWereDone rows old mid → RunsTurns mid rows r new → RunsByQuery old rows r new
+drained old mid new rows (Ok u) good none first h = (none, done_on rows old mid new first (all_any rows h.1.0 mid new good h.1.1).1)
+drained old mid new rows (Err BadLimit) good none first h = absurd (both_limits rows none h.0)
+drained old mid new rows (Err TooManyLeases) good none first h = (none, (done_on rows old mid new first (all_any rows h.1.0.0 mid new good h.1.0.1).1, h.1.1, h.1.2))
+drained old mid new rows (Err OutOfMemory) good none first h =
+    let ran = all_any rows h.1.1.0.0 mid h.1.0 good h.1.1.0.1 in
+    (none, tried_on rows old mid new (tried rows old mid first) (tried_on rows mid h.1.0 new (tried rows mid h.1.0 ran.1) (wanted_any rows h.1.0 new ran.0 h.1.1.1)))
+drained old mid new rows (Err (Query x)) good none first h = absurd h
+drained old mid new rows (Err BadName) good none first h = absurd h
+drained old mid new rows (Err NameTaken) good none first h = absurd h
+drained old mid new rows (Err BadColumns) good none first h = absurd h
+drained old mid new rows (Err TooMany) good none first h = absurd h
+drained old mid new rows (Err UnknownStream) good none first h = absurd h
+drained old mid new rows (Err UnknownQuery) good none first h = absurd h
+drained old mid new rows (Err BadWidth) good none first h = absurd h
+drained old mid new rows (Err ValueRange) good none first h = absurd h
+drained old mid new rows (Err InstantRange) good none first h = absurd h
+drained old mid new rows (Err Late) good none first h = absurd h
+drained old mid new rows (Err Backward) good none first h = absurd h
+drained old mid new rows (Err Leap) good none first h = absurd h
+drained old mid new rows (Err StreamFull) good none first h = absurd h
+drained old mid new rows (Err fault.Broken) good none first h = absurd h
+drained old mid new rows (Err UnknownLease) good none first h = absurd h
+drained old mid new rows (Err Stranger) good none first h = absurd h
+drained old mid new rows (Err HistoryFull) good none first h = absurd h
+drained old mid new rows (Err (Foreign entries)) good none first h = absurd h
+
+-- WHAT A DRAIN GOES THROUGH
+pub ends : (old new : PlainEngine) (rows : ℕ) (r : Result ⊤ Fault) → RunsByQuery old rows r new → SomeWereTried rows old new
+ends old new rows (Ok u) h = (h.1.0, h.1.1.0)
+ends old new rows (Err BadLimit) h = ([], h.1)
+ends old new rows (Err TooManyLeases) h = (h.1.0.0, h.1.0.1.0)
+ends old new rows (Err OutOfMemory) h = h.1
+ends old new rows (Err (Query x)) h = absurd h
+ends old new rows (Err BadName) h = absurd h
+ends old new rows (Err NameTaken) h = absurd h
+ends old new rows (Err BadColumns) h = absurd h
+ends old new rows (Err TooMany) h = absurd h
+ends old new rows (Err UnknownStream) h = absurd h
+ends old new rows (Err UnknownQuery) h = absurd h
+ends old new rows (Err BadWidth) h = absurd h
+ends old new rows (Err ValueRange) h = absurd h
+ends old new rows (Err InstantRange) h = absurd h
+ends old new rows (Err Late) h = absurd h
+ends old new rows (Err Backward) h = absurd h
+ends old new rows (Err Leap) h = absurd h
+ends old new rows (Err StreamFull) h = absurd h
+ends old new rows (Err fault.Broken) h = absurd h
+ends old new rows (Err UnknownLease) h = absurd h
+ends old new rows (Err Stranger) h = absurd h
+ends old new rows (Err HistoryFull) h = absurd h
+ends old new rows (Err (Foreign entries)) h = absurd h
+
+-- the machine is as it was
+any_machine : (rows : ℕ) (s : AnyStep) (e e2 : PlainEngine) → IsAnyStep rows e s e2 → e2.machine ≡ e.machine
+any_machine rows (RanAny l) e e2 h = comes_machine h.0 e2 l h.1.1.1.0 h.1.1.1.1.0 h.1.1.1.1.1.0 h.1.1.1.1.1.1 ∙ ap (λ z. z.machine) h.1.0.1.1.1
+any_machine rows (PassedAny n b) e e2 h = ap (λ z. z.machine) h.is
+any_machine rows (FailedAny l) e e2 h = ap (λ z. z.machine) h.1.1.1.1.1.1 ∙ ap (λ z. z.machine) h.1.0.1.1.1
+
+all_machine : (rows : ℕ) (steps : List AnyStep) (e e2 : PlainEngine) → HaveRunAny rows e steps e2 → e2.machine ≡ e.machine
+all_machine rows [] e e2 h = ap (λ z. z.machine) h
+all_machine rows (s ∷ steps) e e2 h = all_machine rows steps h.0 e2 h.1.1 ∙ any_machine rows s e h.0 h.1.0
+
+pub by_query_machine : (old new : PlainEngine) (rows : ℕ) (r : Result ⊤ Fault) → RunsByQuery old rows r new → new.machine ≡ old.machine
+by_query_machine old new rows r h = let t = ends old new rows r h in all_machine rows t.0 old new t.1
+
+-- and numbers are given, none taken back
+any_gives : (rows : ℕ) (s : AnyStep) (e e2 : PlainEngine) → IsAnyStep rows e s e2 → HasGivenMore e e2
+any_gives rows (RanAny l) e e2 h =
+    let home : e2.next ≡ h.0.next = comes_next h.0 e2 l h.1.1.1.0 h.1.1.1.1.0 h.1.1.1.1.1.0 h.1.1.1.1.1.1 in
+    let went : h.0.next ≡ e.next + 1 = ap (λ z. z.next) h.1.0.1.1.1 in
+    omega (arith, home, went)
+any_gives rows (PassedAny n b) e e2 h = let one : e2.next ≡ e.next + 1 = ap (λ z. z.next) h.is in omega (arith, one)
+any_gives rows (FailedAny l) e e2 h =
+    let home : e2.next ≡ h.0.next = ap (λ z. z.next) h.1.1.1.1.1.1 in
+    let went : h.0.next ≡ e.next + 1 = ap (λ z. z.next) h.1.0.1.1.1 in
+    omega (arith, home, went)
+
+all_give : (rows : ℕ) (steps : List AnyStep) (e e2 : PlainEngine) → HaveRunAny rows e steps e2 → HasGivenMore e e2
+all_give rows [] e e2 h = let same : e2.next ≡ e.next = ap (λ z. z.next) h in omega (arith, same)
+all_give rows (s ∷ steps) e e2 h =
+    let one : e.next ≤ h.0.next = any_gives rows s e h.0 h.1.0 in
+    let more : h.0.next ≤ e2.next = all_give rows steps h.0 e2 h.1.1 in
+    omega (arith, one, more)
+
+pub by_query_gives : (old new : PlainEngine) (rows : ℕ) (r : Result ⊤ Fault) → RunsByQuery old rows r new → HasGivenMore old new
+by_query_gives old new rows r h = let t = ends old new rows r h in all_give rows t.0 old new t.1
+
+-- NO QUERY BREAKS where no step fails
+any_kinds : (rows : ℕ) (s : AnyStep) (e e2 : PlainEngine) → GoodEngine e → IsAnyStep rows e s e2 → has_failed s ≡ false → SameKinds e e2
+any_kinds rows (RanAny l) e e2 good h done n =
+    kind_on (remains_at e n) (remains_at h.0 n) (remains_at e2 n)
+    (subst (λ z. SameKind (remains_at e n) (remains_at z n)) (sym h.1.0.1.1.1) (kind_same (remains_at e n)))
+    (finish_kinds h.0 e2 l (out_good rows e h.0 l good h.1.0) h.1.1 n)
+any_kinds rows (PassedAny k b) e e2 good h done n = pass_kinds e k b e2 good h n
+any_kinds rows (FailedAny l) e e2 good h done n = absurd (let bad : true ≡ false = done in cc)
+
+all_kinds : (rows : ℕ) (steps : List AnyStep) (e e2 : PlainEngine) → GoodEngine e → HaveRunAny rows e steps e2 → AllByRecursion (λ s. has_failed s ≡ false) steps → SameKinds e e2
+all_kinds rows [] e e2 good h done n = subst (λ z. SameKind (remains_at e n) (remains_at z n)) (sym h) (kind_same (remains_at e n))
+all_kinds rows (s ∷ steps) e e2 good h done n =
+    kind_on (remains_at e n) (remains_at h.0 n) (remains_at e2 n) (any_kinds rows s e h.0 good h.1.0 done.0 n)
+    (all_kinds rows steps h.0 e2 (any_good rows s e h.0 good h.1.0) h.1.1 done.1 n)
+
+broken_kind : (a : PlainRemains) (answers : List (ℕ × Row)) (upto : ℕ) → SameKind a (Broken answers upto) → a ≡ Broken answers upto
+broken_kind (Running p) answers upto h = absurd h
+broken_kind (Broken others there) answers upto h = ap (λ z. Broken z there) h.0 ∙ ap (Broken answers) h.1
+broken_kind Dropped answers upto h = absurd h
+
+pub stays_whole : (rows : ℕ) (old mid : PlainEngine) → GoodEngine old → IsWholeEngine old → mid.leases ≡ old.leases → SomeWereDone rows old mid → IsWholeEngine mid
+stays_whole rows old mid good whole leases h = record {
+  returned = leases ∙ whole.returned;
+  unbroken = λ n answers upto is. whole.unbroken n answers upto
+      (broken_kind (remains_at old n) answers upto (subst (SameKind (remains_at old n)) is (all_kinds rows h.0 old mid good h.1.0 h.1.1 n)));
+}
+
+-- THE TURNS OF OTHERS
+broken_since : (old mid new : PlainEngine) → mid.leases ≡ old.leases → HasBrokenOne mid new → HasBrokenOne old new
+broken_since old mid new same h = record { query = h.query; answers = h.answers; upto = h.upto; broken = h.broken; left = h.left ∙ ap (of_others h.query) same }
+
+pub leaves_since : (old mid new : PlainEngine) (r : Result ⊤ Fault) → mid.leases ≡ old.leases → LeavesOthers mid r new → LeavesOthers old r new
+leaves_since old mid new (Ok u) same h = h ∙ same
+leaves_since old mid new (Err OutOfMemory) same h = ⊎_elim (λ is. inl (is ∙ same)) (λ is. inr (broken_since old mid new same is)) h
+leaves_since old mid new (Err BadLimit) same h = h ∙ same
+leaves_since old mid new (Err TooManyLeases) same h = h ∙ same
+leaves_since old mid new (Err (Query x)) same h = h ∙ same
+leaves_since old mid new (Err BadName) same h = h ∙ same
+leaves_since old mid new (Err NameTaken) same h = h ∙ same
+leaves_since old mid new (Err BadColumns) same h = h ∙ same
+leaves_since old mid new (Err TooMany) same h = h ∙ same
+leaves_since old mid new (Err UnknownStream) same h = h ∙ same
+leaves_since old mid new (Err UnknownQuery) same h = h ∙ same
+leaves_since old mid new (Err BadWidth) same h = h ∙ same
+leaves_since old mid new (Err ValueRange) same h = h ∙ same
+leaves_since old mid new (Err InstantRange) same h = h ∙ same
+leaves_since old mid new (Err Late) same h = h ∙ same
+leaves_since old mid new (Err Backward) same h = h ∙ same
+leaves_since old mid new (Err Leap) same h = h ∙ same
+leaves_since old mid new (Err StreamFull) same h = h ∙ same
+leaves_since old mid new (Err fault.Broken) same h = h ∙ same
+leaves_since old mid new (Err UnknownLease) same h = h ∙ same
+leaves_since old mid new (Err Stranger) same h = h ∙ same
+leaves_since old mid new (Err HistoryFull) same h = h ∙ same
+leaves_since old mid new (Err (Foreign entries)) same h = h ∙ same
+
+-- NUMBERS are wanted where no turn is out and it is refused a lease
+none_out : (e : PlainEngine) → IsFull e → e.leases ≡ [] → LEASE_NUMBERS ≤ e.next
+none_out e (inl many) none = let few : length e.leases ≡ 0 = ap length none in absurd (omega (arith, many, few))
+none_out e (inr all) none = all
+
+pub wants_all : (old new : PlainEngine) (rows : ℕ) (r : Result ⊤ Fault) → RunsByQuery old rows r new → LeavesOthers old r new → old.leases ≡ [] → r ≡ Err TooManyLeases → LEASE_NUMBERS ≤ new.next
+wants_all old new rows r ran leaves none is =
+    let ended : RunsByQuery old rows (Err TooManyLeases) new = subst (λ (x : Result ⊤ Fault). RunsByQuery old rows x new) is ran in
+    let left : new.leases ≡ old.leases = subst (λ (x : Result ⊤ Fault). LeavesOthers old x new) is leaves in
+    none_out new ended.1.1 (left ∙ none)
+
+-- AS CLIENTS SEE IT
+stops : (old new : PlainEngine) (rows : ℕ) → new.machine ≡ old.machine → GoodEngine new → (f : Fault) → RunsByQuery old rows (Err f) new → Drains (world_of old) (drain_step (world_of old) rows) (Err f) (world_of new)
+stops old new rows machine good BadLimit h = drain_refused old new rows machine BadLimit h.0 h.1
+stops old new rows machine good TooManyLeases h = stops_early old new rows machine good h.0
+stops old new rows machine good OutOfMemory h = stops_early old new rows machine good h.0
+stops old new rows machine good (Query x) h = absurd h
+stops old new rows machine good BadName h = absurd h
+stops old new rows machine good NameTaken h = absurd h
+stops old new rows machine good BadColumns h = absurd h
+stops old new rows machine good TooMany h = absurd h
+stops old new rows machine good UnknownStream h = absurd h
+stops old new rows machine good UnknownQuery h = absurd h
+stops old new rows machine good BadWidth h = absurd h
+stops old new rows machine good ValueRange h = absurd h
+stops old new rows machine good InstantRange h = absurd h
+stops old new rows machine good Late h = absurd h
+stops old new rows machine good Backward h = absurd h
+stops old new rows machine good Leap h = absurd h
+stops old new rows machine good StreamFull h = absurd h
+stops old new rows machine good fault.Broken h = absurd h
+stops old new rows machine good UnknownLease h = absurd h
+stops old new rows machine good Stranger h = absurd h
+stops old new rows machine good HistoryFull h = absurd h
+stops old new rows machine good (Foreign entries) h = absurd h
+
+pub by_query_does : (old new : PlainEngine) (rows : ℕ) (r : Result ⊤ Fault) → GoodEngine new → map (λ q. q.is_dropped) new.machine.queries ≡ map is_gone new.queries → RunsByQuery old rows r new
+    → OnOk r (first_of new.slots ≡ None) → (r ≢ Err OutOfMemory → IsWholeEngine new) → Drains (world_of old) (drain_step (world_of old) rows) r (world_of new)
+by_query_does old new rows (Ok u) g gone runs idle whole =
+    drain_done old new rows (by_query_machine old new rows (Ok u) runs) runs.0 (all_wait new g (whole (λ e. cc)) idle gone) (all_reached new g (whole (λ e. cc)) idle gone) u
+by_query_does old new rows (Err f) g gone runs idle whole = stops old new rows (by_query_machine old new rows (Err f) runs) g f runs

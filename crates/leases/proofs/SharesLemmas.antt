@@ -1,0 +1,47 @@
+-- Jobs that are cut into two parts: what holds of both holds of the whole.
+use Rattle.std.proofs.Common.{◌≡◌, ◌<◌, ◌≤◌, ◌+◌, ◌-◌, ◌++◌, ⊎_elim, ℕ, zero, suc, List, [], ◌∷◌, length, get_or, refl, sym, ap, ◌∙◌, subst, arith, length-append}
+use Rattle.std.proofs.lemmas.Bool.{cases_lt}
+use Rattle.reference.specs.Machine.{Stream}
+use Rattle.leases.specs.Jobs.{HasRunJob, HaveRunJobs, MayRunJobs}
+use Rattle.leases.specs.declared.registered.Registration.{Registration}
+use Rattle.leases.specs.declared.state.jobs.Job.{Job}
+
+front_at : (xs ys : List Job) (i : ℕ) (d : Job) → i < length xs → get_or (xs ++ ys) i d ≡ get_or xs i d
+front_at [] ys i d lt = absurd (omega (arith, lt))
+front_at (x ∷ xs) ys zero d lt = refl
+front_at (x ∷ xs) ys (suc i) d lt = front_at xs ys i d (omega (arith, lt))
+
+back_at : (xs ys : List Job) (i n : ℕ) (d : Job) → n ≡ length xs + i → get_or (xs ++ ys) n d ≡ get_or ys i d
+back_at [] ys i n d is = ap (λ k. get_or ys k d) (let z : n ≡ i = omega (arith, is) in z)
+back_at (x ∷ xs) ys i zero d is = absurd (omega (arith, is))
+back_at (x ∷ xs) ys i (suc n) d is = back_at xs ys i n d (omega (arith, is))
+
+-- each part may run
+pub may_front : (streams : List Stream) (all : List Registration) (js a b : List Job) → js ≡ a ++ b → MayRunJobs streams all js → MayRunJobs streams all a
+may_front streams all js a b e may i j lt is =
+    let many : length js ≡ length a + length b = ap length e ∙ length-append a b in
+    may i j (omega (arith, lt, many)) (is ∙ sym (ap (λ z. get_or z i j) e ∙ front_at a b i j lt))
+
+pub may_back : (streams : List Stream) (all : List Registration) (js a b : List Job) → js ≡ a ++ b → MayRunJobs streams all js → MayRunJobs streams all b
+may_back streams all js a b e may i j lt is =
+    let many : length js ≡ length a + length b = ap length e ∙ length-append a b in
+    may (length a + i) j (omega (arith, lt, many)) (is ∙ sym (ap (λ z. get_or z (length a + i) j) e ∙ back_at a b i (length a + i) j refl))
+
+-- both have run
+pub both_shares : (streams : List Stream) (all : List Registration) (rows : ℕ) (js a b a2 b2 : List Job) → js ≡ a ++ b → HaveRunJobs streams all rows a a2 → HaveRunJobs streams all rows b b2 → HaveRunJobs streams all rows js (a2 ++ b2)
+both_shares streams all rows js a b a2 b2 e one two = record {
+  many = length-append a2 b2 ∙ (let z : length a2 + length b2 ≡ length a + length b = omega (arith, one.many, two.many) in z) ∙ sym (ap length e ∙ length-append a b);
+  each = λ i d lt. ⊎_elim
+      (λ (less : i < length a).
+      subst (λ x. HasRunJob streams all rows x (get_or (a2 ++ b2) i d)) (sym (ap (λ z. get_or z i d) e ∙ front_at a b i d less))
+      (subst (HasRunJob streams all rows (get_or a i d)) (sym (front_at a2 b2 i d (omega (arith, less, one.many)))) (one.each i d less)))
+      (λ (most : length a ≤ i).
+      let k : ℕ = i - length a in
+      let at : i ≡ length a + k = omega (arith, most) in
+      let at2 : i ≡ length a2 + k = omega (arith, most, one.many) in
+      let many : length js ≡ length a + length b = ap length e ∙ length-append a b in
+      let within : k < length b = omega (arith, lt, many, most) in
+      subst (λ x. HasRunJob streams all rows x (get_or (a2 ++ b2) i d)) (sym (ap (λ z. get_or z i d) e ∙ back_at a b k i d at))
+      (subst (HasRunJob streams all rows (get_or b k d)) (sym (back_at a2 b2 k i d at2)) (two.each k d within)))
+      (cases_lt i (length a));
+}

@@ -1,0 +1,80 @@
+-- A drain that takes query by query: turns of any operators that might be leased.
+use Rattle.std.specs.Prelude.{ℕ, ⊤, ◌≡◌, ◌⊎◌, true, false, Bool, min, None, Some, List, [], ◌∷◌}
+use Rattle.std.specs.Prelude.{Result, Ok, Err}
+use Rattle.std.specs.List.{AllByRecursion}
+use Rattle.op_queue.specs.Items.{entries_of}
+use Rattle.operators.specs.Inboxes.{cut_of}
+use Rattle.operators.specs.Operators.{inbox_of}
+use Rattle.reference.specs.Machine.{Registered}
+use Rattle.reference.specs.World.{drain_fault}
+use Rattle.reference.specs.declared.fault.Fault.{Fault}
+use Rattle.reference.specs.declared.fault.Fault.TheVariants.{BadLimit, OutOfMemory, TooManyLeases}
+use Rattle.laws_queries.specs.Queries.{PlainQuery, log_at, operator_at}
+use Rattle.laws_engine.specs.Calls.{leased}
+use Rattle.laws_engine.specs.Engines.{Lease, PlainEngine}
+use Rattle.laws_engine.specs.Histories.{Breaks, Finishes, IsCallStep}
+use Rattle.laws_engine.specs.Orders.{IsReady}
+use Rattle.laws_engine.specs.Passing.{HasPassed}
+use Rattle.leases.specs.Turns.{HasReady, IsFull}
+
+-- A TURN THAT MIGHT GO OUT goes out: of any operator that has something to take and of which no
+-- turn is out, with what comes out at once of what waits there, at most so many rows
+pub record IsTurnOfAny (e : PlainEngine) (rows : ℕ) (l : Lease) (q : Registered)
+    (p : PlainQuery) : Type 0 where
+  pub ready : IsReady e l q p
+  pub cut : entries_of l.item ≡ cut_of (min rows 1024)
+      (inbox_of (operator_at p.operators l.operator) l.side) (log_at e.machine q l.operator)
+
+abbrev pub GoesOutOfAny : ℕ → PlainEngine → Lease → PlainEngine → Type 0
+GoesOutOfAny rows e l out = (q : Registered)
+    × ((p : PlainQuery) × (IsTurnOfAny e rows l q p × (out ≡ leased e l q p)))
+
+-- A STEP: one goes out and comes back; or a query passes the instants below one at which it has
+-- nothing to do; or one goes out, and memory runs out when it comes back: its query is broken
+pub data AnyStep : Type 0 where
+  RanAny : Lease → AnyStep
+  PassedAny : ℕ → ℕ → AnyStep
+  FailedAny : Lease → AnyStep
+
+abbrev pub IsAnyStep : ℕ → PlainEngine → AnyStep → PlainEngine → Type 0
+IsAnyStep rows old (RanAny l) new =
+    (out : PlainEngine) × (GoesOutOfAny rows old l out × IsCallStep out (Finishes l) new)
+IsAnyStep rows old (PassedAny n b) new = HasPassed old n b new
+IsAnyStep rows old (FailedAny l) new =
+    (out : PlainEngine) × (GoesOutOfAny rows old l out × IsCallStep out (Breaks l) new)
+
+abbrev pub has_failed : AnyStep → Bool
+has_failed (RanAny l) = false
+has_failed (PassedAny n b) = false
+has_failed (FailedAny l) = true
+
+-- STEPS, one after the other
+abbrev pub HaveRunAny : ℕ → PlainEngine → List AnyStep → PlainEngine → Type 0
+HaveRunAny rows old [] new = new ≡ old
+HaveRunAny rows old (s ∷ steps) new =
+    (mid : PlainEngine) × (IsAnyStep rows old s mid × HaveRunAny rows mid steps new)
+
+-- some were done, whether or not some failed; or none of them failed
+abbrev pub SomeWereTried : ℕ → PlainEngine → PlainEngine → Type 0
+SomeWereTried rows old new = (steps : List AnyStep) × HaveRunAny rows old steps new
+
+abbrev pub SomeWereDone : ℕ → PlainEngine → PlainEngine → Type 0
+SomeWereDone rows old new = (steps : List AnyStep)
+    × (HaveRunAny rows old steps new × AllByRecursion (λ s. has_failed s ≡ false) steps)
+
+-- A DRAIN by turns of at most so many rows: some were done; or it was refused where that number is
+-- out of range; or it ended where an operator may be leased and as many turns are out as may be, or
+-- all numbers were given; or memory ran out
+abbrev pub RunsByQuery : PlainEngine → ℕ → Result ⊤ Fault → PlainEngine → Type 0
+RunsByQuery old rows (Ok u) new = (drain_fault rows ≡ None) × SomeWereDone rows old new
+RunsByQuery old rows (Err BadLimit) new = (drain_fault rows ≡ Some BadLimit) × (new ≡ old)
+RunsByQuery old rows (Err TooManyLeases) new =
+    (drain_fault rows ≡ None) × (SomeWereDone rows old new × IsFull new × HasReady new)
+RunsByQuery old rows (Err OutOfMemory) new =
+    (drain_fault rows ≡ None) × SomeWereTried rows old new
+RunsByQuery old rows (Err fault) new = ⊥
+
+-- A QUERY CAME HOME: none of its steps failed, or the last one did
+abbrev pub HaveComeHome : ℕ → Bool → PlainEngine → PlainEngine → Type 0
+HaveComeHome rows true old new = SomeWereDone rows old new
+HaveComeHome rows false old new = SomeWereTried rows old new

@@ -1,0 +1,375 @@
+//! Drains each query by itself, in threads.
+ghost use Rattle.std.specs.Prelude.{◌≡◌, ◌≢◌, ◌+◌, ◌++◌, ◌<◌, ◌≤◌, ◌∷◌, ℕ, Err, IfOk, List, None};
+ghost use Rattle.std.specs.Prelude.{OnErr, OnOk, [], length, set, true};
+ghost use Rattle.reference.specs.declared.fault.Fault.TheVariants.{OutOfMemory};
+ghost use Rattle.run_queue.specs.Slots.{first_of};
+ghost use Rattle.laws_engine.specs.Engines.{Dropped, PlainEngine, remains_at};
+ghost use Rattle.leases.specs.Applied.{GivesNothing, with_remains};
+ghost use Rattle.leases.specs.Asked.{IsRunningAt};
+ghost use Rattle.leases.specs.ByQuery.{HaveComeHome, RunsByQuery, SomeWereDone, SomeWereTried};
+ghost use Rattle.leases.specs.Drains.{LeavesOthers};
+ghost use Rattle.leases.specs.Jobs.{AreJobsBelow, AreLent, AreNewJobs, AreOut, IsBare};
+ghost use Rattle.leases.specs.Passing.{AreSlotsOf, MayLookAt};
+ghost use Rattle.leases.specs.Shown.{engine_in};
+ghost use Rattle.leases.specs.Sound.{IsSound};
+ghost use Rattle.leases.specs.Views.{remains_of};
+ghost use Rattle.leases.specs.Whole.{IsWhole};
+ghost use Rattle.leases.specs.declared.state.jobs.Job.{Job as OneJob};
+
+use crate::limits::LEASE_NUMBERS;
+use crate::reader::Reader;
+use crate::remains::Remains;
+use crate::state::State;
+use crate::state::jobs::{Job, MOST_TURNS};
+use crate::state::shares::{run_jobs, work_of};
+use reference::{Fault, turn_fault};
+use std::alloc::AllocError;
+use std::mem::swap;
+use std::thread::Threads;
+
+/// Says for how many rows one more thread pays, each row counted for each window that it waits for.
+/// To start and to end a thread costs as much as tens of rows.
+const ROWS_OF_A_THREAD: u64 = 1_024;
+
+impl State {
+    /// Drains the ready queries, each by itself, in at most so many threads, if threads pay. Then
+    /// runs what is left, turn by turn.
+    pub(crate) fn drain_by_query<R: Threads + Sync>(
+        &mut self,
+        rt: &R,
+        rows: u32,
+        threads: usize,
+    ) -> Result<(), Fault>
+        requires { IsSound self.old }
+        ensures runs { RunsByQuery (engine_in self.old) rows result (engine_in self.new) }
+        ensures others { LeavesOthers (engine_in self.old) result (engine_in self.new) }
+        ensures idle { OnOk result (first_of (engine_in self.new).slots ≡ None) }
+        ensures whole { IsWhole self.old → result ≢ Err OutOfMemory → IsWhole self.new }
+        ensures sound { IsSound self.new }
+    {
+        if let Some(fault) = turn_fault(rows) {
+            return Err(fault);
+        }
+        self.run_by_query(rt, rows as usize, threads)?;
+        self.drain(rows)
+    }
+
+    /// Drains the ready queries in threads, each query by itself. It does so only if no turn is
+    /// out, two queries or more are ready, and so many rows wait for them that threads pay.
+    ///
+    /// # Errors
+    /// `AllocError` when out of memory: a query broke.
+    fn run_by_query<R: Threads + Sync>(
+        &mut self,
+        rt: &R,
+        rows: usize,
+        threads: usize,
+    ) -> Result<(), AllocError>
+        requires sound { IsSound self.old }
+        requires some { 0 < rows }
+        ensures ok { OnOk result (SomeWereDone rows (engine_in self.old) (engine_in self.new)) }
+        ensures err { OnErr result (SomeWereTried rows (engine_in self.old) (engine_in self.new)) }
+        ensures others { (engine_in self.new).leases ≡ (engine_in self.old).leases }
+        ensures sound { IsSound self.new }
+    {
+        if self.leases.len() > 0 {
+            return Ok(());
+        }
+        if !self.may_pay(threads) {
+            return Ok(());
+        }
+        let Ok(mut jobs) = self.jobs() else {
+            return Ok(());
+        };
+        let threads = paying_threads(&jobs, threads);
+        if threads < 2 {
+            return Ok(());
+        }
+        self.run_out(rt, &mut jobs, rows, threads);
+        self.bring_home(jobs)
+    }
+
+    /// Lends the jobs their queries, and drains each by itself, in at most so many threads.
+    fn run_out<R: Threads + Sync>(&mut self, rt: &R, jobs: &mut [Job], rows: usize, threads: usize)
+        requires sound { IsSound self.old }
+        requires some { 0 < rows }
+        requires returned { (engine_in self.old).leases ≡ [] }
+        requires new { AreNewJobs self.old jobs.old }
+        ensures { AreOut (engine_in self.old) rows jobs.new self.new }
+    {
+        self.lend(jobs);
+        run_jobs(
+            rt,
+            &self.streams,
+            &self.registered,
+            self.alloc,
+            rows,
+            threads,
+            jobs,
+        );
+    }
+
+    /// Returns whether more than one thread may pay, as far as the rows that wait say.
+    fn may_pay(&self, threads: usize) -> bool
+        requires { IsSound self.now }
+    {
+        if threads < 2 {
+            return false;
+        }
+        let mut rows: u64 = 0;
+        for place in 0..self.readers.len() {
+            rows = rows.saturating_add(self.rows_at(&self.readers[place]));
+            if 2 * ROWS_OF_A_THREAD <= rows {
+                return true;
+            }
+        }
+        false
+    }
+
+    /// Counts the rows that wait for a window of a query, if the query runs.
+    #[tactic(auto, using(crate::proofs::LendLemmas::looked_at))]
+    fn rows_at(&self, reader: &Reader) -> u64
+        requires { IsSound self.now }
+    {
+        if !self.runs(reader.query) {
+            return 0;
+        }
+        self.rows_for(reader)
+    }
+
+    /// Counts the rows that wait for a window of a running query, at the cost of a look at each.
+    #[tactic(auto, using(crate::proofs::LendLemmas::has_operator))]
+    fn rows_for(&self, reader: &Reader) -> u64
+        requires { MayLookAt (engine_in self.now) reader.now.query }
+    {
+        let query = self.running(reader.query);
+        if query.len() <= reader.operator {
+            return 0;
+        }
+        let Some((_, start)) = query.ready(&self.streams, reader.operator) else {
+            return 0;
+        };
+        let (waiting, _) = query.pending(&self.streams, reader.operator);
+        let ticks = self.streams.first_open(reader.stream).saturating_sub(start);
+        u64::try_from(waiting.saturating_sub(ticks as u128)).unwrap_or(u64::MAX)
+    }
+
+    /// Lists the jobs of the ready queries, as far as numbers are left for their turns.
+    ///
+    /// # Errors
+    /// `AllocError` when out of memory.
+    fn jobs(&self) -> Result<Vec<Job>, AllocError>
+        requires { IsSound self.now }
+        ensures { IfOk result (λ jobs. AreNewJobs self.now jobs.items) }
+    {
+        let room = (LEASE_NUMBERS - self.next) / MOST_TURNS;
+        let mut jobs = Vec::new(self.alloc);
+        let mut next: u64 = 0;
+        for place in 0..self.readers.len() {
+            let query = self.readers[place].query;
+            next = self.add_job(query, place, next, room, &mut jobs)?;
+        }
+        Ok(jobs)
+    }
+
+    /// Appends the job of a query, whose first window is at a place of the readers. It does so if
+    /// the query is ready, its number is not below `next`, and there are fewer jobs than `room`.
+    /// Returns a number above those of the queries with jobs.
+    ///
+    /// # Errors
+    /// `AllocError` when out of memory.
+    #[tactic(auto, using(crate::proofs::LendLemmas::jobs_added))]
+    fn add_job(
+        &self,
+        query: u64,
+        place: usize,
+        next: u64,
+        room: u64,
+        jobs: &mut Vec<Job>,
+    ) -> Result<u64, AllocError>
+        requires sound { IsSound self.now }
+        requires below { AreJobsBelow (engine_in self.now) next room jobs.old.items }
+        ensures { IfOk result (λ next.
+            AreJobsBelow (engine_in self.now) next room jobs.new.items) }
+    {
+        if query < next {
+            return Ok(next);
+        }
+        if room <= jobs.len() as u64 {
+            return Ok(next);
+        }
+        if !self.is_ready(query) {
+            return Ok(next);
+        }
+        let job = self.job(query, place)?;
+        jobs.push(job)?;
+        Ok(query + 1)
+    }
+
+    /// Returns whether the query runs and one of its operators may take something.
+    fn is_ready(&self, query: u64) -> bool
+        requires { IsSound self.now }
+        ensures { result ≡ true → MayLookAt (engine_in self.now) query }
+    {
+        if !self.runs(query) {
+            return false;
+        }
+        self.has_ready(query)
+    }
+
+    /// Returns whether the query runs.
+    fn runs(&self, query: u64) -> bool
+        ensures { result ≡ true → IsRunningAt (engine_in self.now) query }
+    {
+        match self.remains.get(query as usize) {
+            Some(remains) => remains.is_running(),
+            None => false,
+        }
+    }
+
+    /// Returns whether one of the query's operators may take something.
+    fn has_ready(&self, query: u64) -> bool
+        requires { MayLookAt (engine_in self.now) query }
+    {
+        for operator in 0..self.running(query).len() {
+            if self.next_for(query, operator).is_some() {
+                return true;
+            }
+        }
+        false
+    }
+
+    /// Makes the job of a query, with the slots of its operators. The first of its windows is at a
+    /// place of the readers.
+    ///
+    /// # Errors
+    /// `AllocError` when out of memory.
+    fn job(&self, query: u64, place: usize) -> Result<Job, AllocError>
+        requires { MayLookAt (engine_in self.now) query }
+        ensures query { IfOk result (λ job. job.query ≡ query) }
+        ensures slots { IfOk result (λ job.
+            AreSlotsOf (engine_in self.now) query job.slots.items) }
+        ensures empty { IfOk result (λ job. remains_of job.remains ≡ Dropped) }
+    {
+        let slots = self.query_slots(query)?;
+        Ok(Job {
+            query,
+            remains: Remains::Dropped,
+            slots,
+            work: self.work_from(query, place),
+            turns: 0,
+        })
+    }
+
+    /// Counts the rows that wait for the windows of a query, a row for each window. The first of
+    /// them is at a place of the readers.
+    fn work_from(&self, query: u64, place: usize) -> u64
+        requires { MayLookAt (engine_in self.now) query }
+    {
+        let mut work: u64 = 0;
+        for place in place..self.readers.len() {
+            let reader = &self.readers[place];
+            if reader.query != query {
+                return work;
+            }
+            work = work.saturating_add(self.rows_for(reader));
+        }
+        work
+    }
+
+    /// Lets each job have what is left of its query.
+    fn lend(&mut self, jobs: &mut [Job])
+        requires sound { IsSound self.old }
+        requires new { AreNewJobs self.old jobs.old }
+        ensures { AreLent self.old jobs.new self.new }
+    {
+        for place in 0..jobs.len() {
+            self.lend_to(&mut jobs[place]);
+        }
+    }
+
+    /// Lets a job have what is left of its query.
+    fn lend_to(&mut self, job: &mut Job)
+        requires { job.old.query < length self.old.remains.items }
+        ensures state { engine_in self.new
+            ≡ with_remains (engine_in self.old) job.old.query (remains_of job.old.remains) }
+        ensures rest { IsBare (engine_in self.old) self.old self.new }
+        ensures job { (job.new.query ≡ job.old.query) × (job.new.slots.items ≡ job.old.slots.items)
+            × (remains_of job.new.remains ≡ remains_at (engine_in self.old) job.old.query) }
+    {
+        swap(&mut job.remains, &mut self.remains[job.query as usize]);
+    }
+
+    /// Takes back the queries of all jobs.
+    ///
+    /// # Errors
+    /// `AllocError` if one of them is broken.
+    fn bring_home(&mut self, jobs: Vec<Job>) -> Result<(), AllocError>
+        requires { (e : PlainEngine) × ((rows : ℕ) × AreOut e rows jobs.items self.old) }
+        ensures ok { OnOk result ((e : PlainEngine) (rows : ℕ) → AreOut e rows jobs.items self.old
+            → SomeWereDone rows e (engine_in self.new)) }
+        ensures err { OnErr result ((e : PlainEngine) (rows : ℕ)
+            → AreOut e rows jobs.items self.old → SomeWereTried rows e (engine_in self.new)) }
+        ensures returned { (engine_in self.new).leases ≡ [] }
+        ensures sound { IsSound self.new }
+    {
+        let mut jobs = jobs;
+        let mut all_run = true;
+        'jobs: while let Some(job) = jobs.pop() {
+            if !self.take_home(job) {
+                all_run = false;
+            }
+        }
+        if all_run {
+            return Ok(());
+        }
+        Err(AllocError)
+    }
+
+    /// Takes back the query of a job. Returns whether it runs.
+    fn take_home(&mut self, job: Job) -> bool
+        requires { (e : PlainEngine) × ((rows : ℕ) × ((rest : List OneJob)
+            × AreOut e rows (rest ++ job ∷ []) self.old)) }
+        ensures { (e : PlainEngine) (rows : ℕ) (rest : List OneJob)
+            → AreOut e rows (rest ++ job ∷ []) self.old
+            → (e2 : PlainEngine) × (AreOut e2 rows rest self.new × HaveComeHome rows result e e2) }
+    {
+        let Job {
+            query,
+            remains,
+            slots,
+            work: _,
+            turns,
+        } = job;
+        let broke = remains.is_broken();
+        self.put_back(query, remains, turns);
+        if broke {
+            self.stop(query);
+            return false;
+        }
+        self.change_slots(&slots);
+        true
+    }
+
+    /// Puts back what is left of a query, after so many turns.
+    fn put_back(&mut self, query: u64, remains: Remains, turns: u64)
+        requires here { query < length self.old.remains.items }
+        requires numbers { self.old.next + turns ≤ LEASE_NUMBERS }
+        ensures engine { engine_in self.new ≡ record (engine_in self.old) {
+          queries = set (engine_in self.old).queries query (remains_of remains);
+          next = self.old.next + turns;
+        } }
+        ensures undropped { self.new.undropped ≡ self.old.undropped }
+        ensures readers { self.new.readers.items ≡ self.old.readers.items }
+        ensures leases { self.new.leases.items ≡ self.old.leases.items }
+    {
+        self.remains[query as usize] = remains;
+        self.next += turns;
+    }
+}
+
+/// Returns how many threads pay for the jobs, at most so many.
+fn paying_threads(jobs: &[Job], threads: usize) -> usize {
+    let paying = work_of(jobs) / ROWS_OF_A_THREAD;
+    threads.min(jobs.len()).min(paying as usize)
+}

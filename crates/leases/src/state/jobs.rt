@@ -1,0 +1,282 @@
+//! Drains a query by itself.
+ghost use Rattle.std.specs.Prelude.{◌≡◌, ◌<◌, ◌⊎◌, IfErr, IfSome, OnOk, Some, length};
+ghost use Rattle.laws_queries.specs.Queries.{PlainQuery};
+ghost use Rattle.laws_engine.specs.Engines.{Running, next_of};
+ghost use Rattle.query_runtime.specs.Passing.{HasOperators};
+ghost use Rattle.query_runtime.specs.Turns.{HasOperator};
+ghost use Rattle.leases.specs.Alone.{HasRunAlone, HasStoppedOwn, IsReadyIn, MayPassOwn};
+ghost use Rattle.leases.specs.Alone.{MayRunAlone, OneOwnStep};
+ghost use Rattle.leases.specs.Forgets.{IsMarkable};
+ghost use Rattle.leases.specs.Jobs.{HasRunJob, MayRunJob};
+ghost use Rattle.leases.specs.Runs.{HasRunOn, HasStoppedOn, MayRunOn};
+ghost use Rattle.leases.specs.Views.{query_of, remains_of};
+
+use crate::reach::Reach;
+use crate::registered::Registration;
+use crate::remains::Remains;
+use crate::state::forget::next_behind;
+use crate::state::looks::slope_of;
+use crate::state::passing::FEW_INSTANTS;
+use column::Side;
+use operators::Refused;
+use query_runtime::RunningQuery;
+use run_queue::Slot;
+use std::alloc::Global;
+use stream_store::Streams;
+
+/// Limits the turns that a query runs by itself: many more than any drain has.
+pub(crate) const MOST_TURNS: u64 = 1 << 40;
+
+/// Keeps a query while it is drained by itself.
+#[derive(Drop)]
+pub(crate) struct Job {
+    /// Holds the number of the query.
+    pub(crate) query: u64,
+    /// Holds what is left of the query.
+    pub(crate) remains: Remains,
+    /// Holds the slots of its operators, as they were before.
+    pub(crate) slots: Vec<Slot>,
+    /// Counts the rows that wait for its windows.
+    pub(crate) work: u64,
+    /// Counts the numbers that its turns took.
+    pub(crate) turns: u64,
+}
+
+/// Says what became of a query that was drained by itself.
+#[derive(Drop)]
+struct Ran {
+    /// Counts the numbers that its turns took.
+    turns: u64,
+    /// Holds how far its answers reach, if a turn that had taken something ran out of memory.
+    broke: Option<Reach>,
+}
+
+/// Drains the query of a job.
+pub(crate) fn run_job(
+    job: &mut Job,
+    streams: &Streams,
+    registered: &[Registration],
+    alloc: Global,
+    rows: usize,
+)
+    requires some { 0 < rows }
+    requires may { MayRunJob streams.now registered.now job.old }
+    ensures { HasRunJob streams.now registered.now rows job.old job.new }
+{
+    let registration = &registered[job.query as usize];
+    let ran = run_remains(&mut job.remains, streams, registration, alloc, rows);
+    job.turns = ran.turns;
+    if let Some(reach) = ran.broke {
+        job.remains.give_up(reach);
+    }
+}
+
+/// Drains the running query.
+fn run_remains(
+    remains: &mut Remains,
+    streams: &Streams,
+    registration: &Registration,
+    alloc: Global,
+    rows: usize,
+) -> Ran
+    requires some { 0 < rows }
+    requires may { (p : PlainQuery) × ((remains_of remains.old ≡ Running p)
+        × MayRunAlone streams.now (query_of registration.now) p) }
+    ensures { (p : PlainQuery) → remains_of remains.old ≡ Running p
+        → (p2 : PlainQuery) × ((remains_of remains.new ≡ Running p2)
+        × HasRunAlone streams.now (query_of registration.now) rows p result p2) }
+{
+    match remains {
+        Remains::Running(query) => run_alone(query, streams, registration, alloc, rows),
+        _ => unreachable!(),
+    }
+}
+
+/// Runs turns of a query in place until none of its operators may take anything. Where it has
+/// nothing to do at more than a few instants, it passes these instead.
+///
+/// A pass is tried at the start and after the turns of the root, as in a drain of all queries:
+/// after those of another operator something waits as a rule.
+fn run_alone(
+    query: &mut RunningQuery,
+    streams: &Streams,
+    registration: &Registration,
+    alloc: Global,
+    rows: usize,
+) -> Ran
+    requires some { 0 < rows }
+    requires may { MayRunAlone streams.now (query_of registration.now) query.old }
+    ensures { HasRunAlone streams.now (query_of registration.now) rows query.old result query.new }
+{
+    let mut turns = 0;
+    let mut next: Option<Slot> = None;
+    let mut settled = true;
+    'turns: while turns < MOST_TURNS {
+        let Some(slot) = next_ready(query, streams, registration, &next) else {
+            return Ran { turns, broke: None };
+        };
+        let reach = reach_of(registration, query);
+        match run_step(query, streams, &slot, settled, alloc, rows) {
+            Ok(()) => turns += 1,
+            Err(Refused::Before) => return Ran { turns, broke: None },
+            Err(Refused::Within) => {
+                return Ran {
+                    turns: turns + 1,
+                    broke: Some(reach),
+                };
+            },
+        }
+        next = again(query, streams, registration, &slot);
+        settled = query.len() <= slot.operator().saturating_add(1);
+    }
+    Ran { turns, broke: None }
+}
+
+/// Runs a turn of the slot's operator in place. If a root ran last, or nothing yet, and the query
+/// has nothing to do at more than a few instants, it passes these instead.
+#[tactic(auto, using(crate::proofs::AloneLemmas::may_be_quiet))]
+fn run_step(
+    query: &mut RunningQuery,
+    streams: &Streams,
+    slot: &Slot,
+    settled: bool,
+    alloc: Global,
+    rows: usize,
+) -> Result<(), Refused>
+    requires has { HasOperators streams.now query.old }
+    requires may { MayRunOn streams.now query.old slot.now rows }
+    ensures ok { OnOk result (OneOwnStep streams.now rows query.old query.new) }
+    ensures err { IfErr result (λ refused.
+        HasStoppedOwn refused streams.now rows query.old query.new) }
+{
+    if let Some(until) = pass_of(query, streams, slot, settled) {
+        query.pass(until);
+        return Ok(());
+    }
+    run_one(query, streams, slot, alloc, rows)
+}
+
+/// Runs a turn of the slot's operator in place.
+fn run_one(
+    query: &mut RunningQuery,
+    streams: &Streams,
+    slot: &Slot,
+    alloc: Global,
+    rows: usize,
+) -> Result<(), Refused>
+    requires { MayRunOn streams.now query.old slot.now rows }
+    ensures ok { OnOk result (HasRunOn streams.now query.old slot.now rows query.new) }
+    ensures err { IfErr result (λ refused.
+        HasStoppedOn refused streams.now query.old slot.now rows query.new) }
+{
+    query.run(alloc, streams, slot.operator(), slot.side(), rows)
+}
+
+/// Returns the instant up to which the query may pass, since there is nothing to do. There is none
+/// if these are only a few instants, or if another operator than a root ran last.
+///
+/// If it may not pass, that costs a look at the slot's operator, or at all of the query.
+fn pass_of(query: &RunningQuery, streams: &Streams, slot: &Slot, settled: bool) -> Option<u64>
+    requires has { HasOperators streams.now query.now }
+    requires here { slot.now.operator < length query.now.operators }
+    ensures { IfSome result (MayPassOwn streams.now query.now) }
+{
+    if !settled {
+        return None;
+    }
+    let Some(start) = slot.instant() else {
+        return None;
+    };
+    let least = start.saturating_add(FEW_INSTANTS);
+    let until = query.quiet_until(streams, slot.operator(), start, least);
+    if until < least {
+        return None;
+    }
+    if until <= start {
+        return None;
+    }
+    Some(until)
+}
+
+/// Returns what was found to come first, or looks for it.
+fn next_ready(
+    query: &RunningQuery,
+    streams: &Streams,
+    registration: &Registration,
+    found: &Option<Slot>,
+) -> Option<Slot>
+    requires may { MayRunAlone streams.now (query_of registration.now) query.now }
+    requires found { IfSome found.now (IsReadyIn streams.now query.now) }
+    ensures { IfSome result (IsReadyIn streams.now query.now) }
+{
+    match found {
+        Some(slot) => Some(*slot),
+        None => first_ready(query, streams, registration),
+    }
+}
+
+/// Returns the slot with what its operator may take next, if it would come first again. It would if
+/// that is of the same instant, and the slope of the operator above is no greater.
+fn again(
+    query: &RunningQuery,
+    streams: &Streams,
+    registration: &Registration,
+    slot: &Slot,
+) -> Option<Slot>
+    requires { HasOperator streams.now query.now slot.now.operator }
+    ensures { IfSome result (IsReadyIn streams.now query.now) }
+{
+    let next = query.ready(streams, slot.operator());
+    if !slot.goes_on(next) {
+        return None;
+    }
+    let above = query.wire(slot.operator()).to;
+    if is_below_steeper(registration, slot, above) {
+        return None;
+    }
+    Some(slot.with_next(next))
+}
+
+/// Returns whether the operator above has a greater slope than the slot's. The root has none above.
+fn is_below_steeper(registration: &Registration, slot: &Slot, above: usize) -> bool {
+    match registration.slopes.get(above) {
+        Some(slope) => Slot::new(*slope, None, 0, above).is_steeper(slot),
+        None => false,
+    }
+}
+
+/// Returns the slot that comes first among those of the query's operators, if any may take
+/// something.
+fn first_ready(query: &RunningQuery, streams: &Streams, registration: &Registration) -> Option<Slot>
+    requires { MayRunAlone streams.now (query_of registration.now) query.now }
+    ensures { IfSome result (IsReadyIn streams.now query.now) }
+{
+    let mut first: Option<Slot> = None;
+    for operator in 0..query.len() {
+        if let Some(next) = query.ready(streams, operator) {
+            let slot = Slot::new(slope_of(registration, operator), Some(next), 0, operator);
+            first = Some(first_of(slot, &first));
+        }
+    }
+    first
+}
+
+/// Returns the one of two slots that comes first.
+fn first_of(slot: Slot, other: &Option<Slot>) -> Slot
+    ensures { (result ≡ slot) ⊎ (other.now ≡ Some result) }
+{
+    match other {
+        Some(other) if *other < slot => *other,
+        _ => slot,
+    }
+}
+
+/// Says how far the answers of a running query reach.
+fn reach_of(registration: &Registration, query: &RunningQuery) -> Reach
+    requires { IsMarkable (query_of registration.now) (Running query.now) }
+    ensures { result.next ≡ next_of (query_of registration.now) query.now }
+{
+    Reach {
+        next: next_behind(registration.first, query.last_tick()),
+    }
+}

@@ -1,0 +1,138 @@
+//! Tests that a drain query by query answers as one turn by turn does, in however many threads.
+
+use crate::fixture::{declare, opened};
+use hub::{Hub, Seat};
+use leases::Leased;
+use reference::{Fault, NewRows};
+use std::alloc::Global;
+use std::sync::Wait;
+use std::test::Fail;
+use std::thread::Threads;
+
+/// Is what each query asks: all kinds of windows and operators, over ten windows in all.
+const QUERIES: [&str; 8] = [
+    "Select Rstream(a) From S [Now] Where a > 3",
+    "Select Istream(a, Count(*), Max(a)) From S [Range 10] Group By a",
+    "Select Istream(Distinct a) From S [Range 5]",
+    "Select Istream(x.a) From S [Range 3] x, S [Now] y Where x.a = y.a",
+    "Select Dstream(a) From S [Rows 20]",
+    "Select Istream(a) From S [Range 100 Slide 50]",
+    "Select Istream(Count(*)) From S [Partition By a Rows 2]",
+    "Select Dstream(x.a, y.a) From S [Range 2] x, S [Range 1] y Where x.a = y.a",
+];
+
+/// Limits the rows of a take.
+const LIMIT: i64 = 4_096;
+
+/// Makes a hub with the stream S(a) and the queries.
+fn queried<R: Wait>(rt: &R, alloc: Global) -> Result<(Hub, Seat), Fault> {
+    let (hub, mut seat) = opened(alloc)?;
+    declare(rt, alloc, &hub, &mut seat)?;
+    for number in 0..QUERIES.len() {
+        let name = format!(in alloc; "q{number}")?;
+        let text = String::from_str(alloc, QUERIES[number])?;
+        hub.query(rt, &mut seat, name, text, None)?;
+    }
+    Ok((hub, seat))
+}
+
+/// Appends 512 rows from an instant on, 32 of them each 7 instants, and closes these and more.
+fn fill<R: Wait>(
+    rt: &R,
+    alloc: Global,
+    hub: &Hub,
+    seat: &mut Seat,
+    start: i64,
+) -> Result<(), Fault> {
+    let mut rows = NewRows::new(alloc);
+    for number in 0..512 {
+        rows.push_row(start + number / 32 * 7, &[Some(number * 7 % 11)])?;
+    }
+    hub.append(rt, seat, 0, rows)?;
+    hub.heartbeat(rt, seat, 0, start + 200)?;
+    Ok(())
+}
+
+/// Returns whether the next answers of each query are some, and the same in both hubs.
+fn are_same<R: Wait>(
+    rt: &R,
+    one: &Hub,
+    first: &mut Seat,
+    other: &Hub,
+    second: &mut Seat,
+) -> Result<bool, Fault> {
+    for query in 0..QUERIES.len() as u64 {
+        let (expected, _) = one.take(rt, first, query, LIMIT)?;
+        let (taken, _) = other.take(rt, second, query, LIMIT)?;
+        if expected.is_empty() || !taken.is_same(&expected) {
+            return Ok(false);
+        }
+    }
+    Ok(true)
+}
+
+/// Returns whether two drains by so many threads answer as two drains turn by turn.
+fn answers_alike<R: Threads + Wait + Sync>(
+    rt: &R,
+    alloc: Global,
+    rows: u32,
+    threads: usize,
+) -> Result<bool, Fault> {
+    let (one, mut first) = queried(rt, alloc)?;
+    let (other, mut second) = queried(rt, alloc)?;
+    for start in [0, 300] {
+        fill(rt, alloc, &one, &mut first, start)?;
+        fill(rt, alloc, &other, &mut second, start)?;
+        one.drain(rt, rows)?;
+        other.drain_by_query(rt, rows, threads)?;
+        if other.has_ready(rt) || !are_same(rt, &one, &mut first, &other, &mut second)? {
+            return Ok(false);
+        }
+    }
+    Ok(true)
+}
+
+#[test]
+fn drains_by_query_answer_as_drains(rt: HostRuntime) -> Result<(), Fail> {
+    for (rows, threads) in [(256, 1), (256, 2), (256, 4), (7, 4)] {
+        assert!(rt;
+            answers_alike(&rt, rt.alloc(), rows, threads)?,
+            "turns of {rows} rows in {threads} threads"
+        );
+    }
+    Ok(())
+}
+
+/// Returns whether a turn that is out stays out in a drain by query, and comes back after it. Then
+/// a second drain by query gives the answers of a drain.
+fn turn_stays_out<R: Threads + Wait + Sync>(rt: &R, alloc: Global) -> Result<bool, Fault> {
+    let (one, mut first) = queried(rt, alloc)?;
+    let (other, mut second) = queried(rt, alloc)?;
+    fill(rt, alloc, &one, &mut first, 0)?;
+    fill(rt, alloc, &other, &mut second, 0)?;
+    let Leased::Turn(turn) = other.lease(rt, 256)? else {
+        return Ok(false);
+    };
+    other.drain_by_query(rt, 256, 4)?;
+    let Ok(done) = turn.run(alloc) else {
+        return Ok(false);
+    };
+    other.finish(rt, done)?;
+    other.drain_by_query(rt, 256, 4)?;
+    one.drain(rt, 256)?;
+    are_same(rt, &one, &mut first, &other, &mut second)
+}
+
+#[test]
+fn a_turn_stays_out_in_a_drain_by_query(rt: HostRuntime) -> Result<(), Fail> {
+    assert!(rt; turn_stays_out(&rt, rt.alloc())?);
+    Ok(())
+}
+
+#[test]
+fn a_drain_by_query_limits_rows(rt: HostRuntime) -> Result<(), Fail> {
+    let (hub, _seat) = queried(&rt, rt.alloc())?;
+    assert!(rt; hub.drain_by_query(&rt, 0, 4) == Err(Fault::BadLimit));
+    assert!(rt; hub.drain_by_query(&rt, 1_025, 4) == Err(Fault::BadLimit));
+    Ok(())
+}

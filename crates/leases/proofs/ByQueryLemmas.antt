@@ -18,7 +18,7 @@ use Rattle.laws_engine.proofs.LeaseLemmas.{leasable_ready, ready_good}
 use Rattle.laws_engine.proofs.OrderLemmas.{finish_kinds, kind_on, kind_same, pass_kinds}
 use Rattle.laws_engine.proofs.PassingLemmas.{pass_good}
 use Rattle.leases.specs.ByQuery.{AnyStep, FailedAny, GoesOutOfAny, HaveRunAny, IsAnyStep, PassedAny, RanAny, RunsByQuery, SomeWereDone, SomeWereTried, has_failed}
-use Rattle.leases.specs.Drains.{HasBrokenOne, HasWanted, HaveRun, IsDone, LeavesOthers, Passed, Ran, RunsTurns, Step}
+use Rattle.leases.specs.Drains.{HasBrokenOne, RanOutOfMemory, HaveRun, IsDone, LeavesOthers, Passed, Ran, RunsTurns, Step}
 use Rattle.leases.specs.Sound.{is_gone}
 use Rattle.leases.specs.Turns.{IsFull, IsTurnOf}
 use Rattle.leases.specs.Views.{lease_of}
@@ -72,7 +72,7 @@ all_any rows (s ∷ steps) e e2 good h =
     let later = all_any rows steps h.0 e2 (any_good rows one.0 e h.0 good one.1.0) h.1.1 in
     (later.0, (one.0 ∷ later.1.0, ((h.0, (one.1.0, later.1.1.0)), (one.1.1, later.1.1.1))))
 
-wanted_any : (rows : ℕ) (e e2 : PlainEngine) → GoodEngine e → HasWanted rows e e2 → SomeWereTried rows e e2
+wanted_any : (rows : ℕ) (e e2 : PlainEngine) → GoodEngine e → RanOutOfMemory rows e e2 → SomeWereTried rows e e2
 wanted_any rows e e2 good (inl h) = ([], h.2)
 wanted_any rows e e2 good (inr h) = (FailedAny (lease_of h.0) ∷ [], (e2, ((h.1.0, (goes_of_any rows e h.0 h.1.0 good h.1.1.0, h.1.1.1)), refl)))
 

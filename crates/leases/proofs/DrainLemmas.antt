@@ -24,7 +24,7 @@ use Rattle.laws_engine.specs.Engines.{Broken, Dropped, GoodEngine, IsIn, Lease, 
 use Rattle.laws_engine.specs.Histories as history
 use Rattle.laws_engine.specs.Histories.{ComesBack, IsCallStep}
 use Rattle.laws_engine.specs.Passing.{HasPassed}
-use Rattle.leases.specs.Drains.{HasBrokenOne, HasWanted, HaveRun, IsDone, LeavesOthers, OneHasRun, OneOrMoreHaveRun, Passed, Ran, RunsFirst, RunsTurns, SomeHaveRun, Step, as_drained}
+use Rattle.leases.specs.Drains.{HasBrokenOne, RanOutOfMemory, HaveRun, IsDone, LeavesOthers, OneHasRun, OneOrMoreHaveRun, Passed, Ran, RanOutBelow, RunsFirst, RunsTurns, SomeHaveRun, Step, as_drained}
 use Rattle.leases.specs.Passing.{OneHasPassed}
 use Rattle.leases.specs.Turns.{HasReady, IsTurnOf}
 use Rattle.leases.specs.Views.{lease_of}
@@ -99,6 +99,10 @@ only_looked (Err f) before until h none = absurd (omega (arith, h, none))
 
 pub limit_is : (rows : ℕ) (f : Fault) → Some f ≡ drain_fault rows → f ≡ BadLimit
 limit_is rows f h = told_limit (not (nat_le 1 rows && nat_le rows MAX_TURN)) f h
+
+-- MEMORY RAN OUT in a step, below the end of all
+pub ends_below : (rows end until : ℕ) (e1 e2 e3 : PlainEngine) → SomeHaveRun rows e1 e2 → RanOutBelow rows end e2 e3 → end ≤ until → RanOutBelow rows until e1 e3
+ends_below rows end until e1 e2 e3 ran h within = (h.0, (run_on rows e1 e2 h.0 ran h.1.0, (h.1.1.0, omega (arith, h.1.1.1, within))))
 
 -- A STEP THAT IS REFUSED ends a drain
 pub step_ends : (e1 e2 e3 : PlainEngine) (rows : ℕ) (f : Fault) → drain_fault rows ≡ None → SomeHaveRun rows e1 e2 → RunsFirst e2 rows (Err f) e3 → RunsTurns e1 rows (Err f) e3
@@ -255,7 +259,7 @@ have_machine rows (s ∷ steps) e1 e2 ran = have_machine rows steps ran.0 e2 ran
 breaks_machine : (e1 e2 : PlainEngine) (l : Lease) → IsCallStep e1 (history.Breaks l) e2 → e2.machine ≡ e1.machine
 breaks_machine e1 e2 l h = ap (λ e. e.machine) h.1.1.1.1
 
-last_machine : (rows : ℕ) (e1 e2 : PlainEngine) → HasWanted rows e1 e2 → e2.machine ≡ e1.machine
+last_machine : (rows : ℕ) (e1 e2 : PlainEngine) → RanOutOfMemory rows e1 e2 → e2.machine ≡ e1.machine
 last_machine rows e1 e2 (inl h) = ap (λ e. e.machine) h.2
 last_machine rows e1 e2 (inr h) = breaks_machine h.1.0 e2 (lease_of h.0) h.1.1.1 ∙ ap (λ e. e.machine) h.1.1.0.after
 
@@ -359,7 +363,7 @@ since : (old e1 e2 : PlainEngine) → e1.leases ≡ old.leases → (e2.leases �
 since old e1 e2 same (inl h) = inl (h ∙ same)
 since old e1 e2 same (inr h) = inr (broken_since old e1 e2 same h)
 
-wanted : (e1 e2 : PlainEngine) (rows : ℕ) → GoodEngine e1 → HasWanted rows e1 e2 → (e2.leases ≡ e1.leases) ⊎ HasBrokenOne e1 e2
+wanted : (e1 e2 : PlainEngine) (rows : ℕ) → GoodEngine e1 → RanOutOfMemory rows e1 e2 → (e2.leases ≡ e1.leases) ⊎ HasBrokenOne e1 e2
 wanted e1 e2 rows good (inl h) = inl (ap (λ e. e.leases) h.2)
 wanted e1 e2 rows good (inr h) = inr (breaks e1 h.1.0 rows h.0 good h.1.1.0 e2 h.1.1.1)
 

@@ -21,7 +21,7 @@ use Rattle.laws_engine.specs.Engines.{Broken, Dropped, GoodEngine, PlainEngine, 
 use Rattle.laws_engine.proofs.BackLemmas.{remains_here, same_plain}
 use Rattle.leases.specs.Applied.{Forgets, GivesNothing, HasTaken, HasTakenIn, HasTold, IsAbove, IsBroken, IsBrokenAt, MayTell, with_remains}
 use Rattle.leases.specs.Asked.{HasOperatorAt, IsRunningAt}
-use Rattle.leases.specs.Drains.{HasWanted, OneHasRun}
+use Rattle.leases.specs.Drains.{RanOutOfMemory, OneHasRun}
 use Rattle.leases.specs.Leasing.{IsTurnOn}
 use Rattle.leases.specs.Readers.{readers_of}
 use Rattle.leases.specs.Runs.{HasItemOn, HasRunIn, HasRunOn, HasStoppedIn, HasStoppedOn}
@@ -162,7 +162,7 @@ module _ (old : State) (s : Slot) (rows : ℕ) (sound : IsSound old) (first : fi
           ∙ ap (broken_at (engine_in (counted old)) s.query p) reached
           ∙ ap (broken (engine_in (counted old)) s.query) same
 
-      pub wanted_within : HasWanted rows (engine_in old) (engine_in new)
+      pub wanted_within : RanOutOfMemory rows (engine_in old) (engine_in new)
       wanted_within = inr (broke_one old s rows w sound first allowed numbers w_made new breaks)
 
       pub within_sound : Forgets s.query (given m old.next) new → GivesNothing old m → IsSound new

@@ -6,7 +6,7 @@ use Rattle.reference.specs.declared.fault.Fault.{Fault}
 use Rattle.reference.specs.declared.fault.Fault.TheVariants as fault
 use Rattle.reference.specs.declared.fault.Fault.TheVariants.{Query, BadName, NameTaken, BadColumns, TooMany, UnknownStream, UnknownQuery, BadWidth, ValueRange, InstantRange, Late, Backward, Leap, StreamFull, BadLimit, UnknownLease, Stranger, TooManyLeases, HistoryFull, OutOfMemory, Foreign}
 use Rattle.laws_engine.specs.Engines.{PlainEngine}
-use Rattle.leases.specs.Drains.{HasWanted, OneHasFailed, RunsTurns}
+use Rattle.leases.specs.Drains.{RanOutOfMemory, OneHasFailed, RunsTurns}
 use Rattle.leases.specs.Registering.{Registers}
 use Rattle.leases.specs.Takes.{Takes}
 use Rattle.leases.specs.declared.limits.TheConstants.{LEASE_NUMBERS}
@@ -42,7 +42,7 @@ failed_gives rows e1 e2 h =
     let broke : e2.next ≡ h.1.0.next = ap (λ e. e.next) h.1.1.1.1.1.1.1 in
     omega (arith, went, broke)
 
-last_gives : (rows : ℕ) (e1 e2 : PlainEngine) → HasWanted rows e1 e2 → HasGivenMore e1 e2
+last_gives : (rows : ℕ) (e1 e2 : PlainEngine) → RanOutOfMemory rows e1 e2 → HasGivenMore e1 e2
 last_gives rows e1 e2 (inl h) = same_next e1 e2 (ap (λ e. e.next) h.2)
 last_gives rows e1 e2 (inr h) = failed_gives rows e1 e2 h
 

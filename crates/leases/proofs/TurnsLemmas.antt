@@ -35,7 +35,7 @@ use Rattle.laws_engine.proofs.BackLemmas.{numbered, remains_here, same_plain, sa
 use Rattle.laws_engine.proofs.PromiseLemmas.{first_in, is_slot, slot_is}
 use Rattle.leases.specs.Applied.{BothStand, Forgets, GivesNothing, HasTold, IsAbove, IsBrokenAt, IsUpdated, MayTell, with_remains}
 use Rattle.leases.specs.Asked.{HasOperatorAt, IsRunningAt}
-use Rattle.leases.specs.Drains.{HasWantedBehind, OneHasRun, OneOrMoreHaveRun, SomeHaveRun}
+use Rattle.leases.specs.Drains.{RanOutAfterTurns, RanOutBelow, OneHasRun, OneOrMoreHaveRun, SomeHaveRun}
 use Rattle.leases.specs.Readers.{next_for, with_slots, with_update, with_updates}
 use Rattle.leases.specs.Runs.{HasLast, HasRunIn, HasRunOn, HasStoppedIn, MayRunIn, last_of}
 use Rattle.leases.specs.Forgets.{IsMarkable}
@@ -555,8 +555,11 @@ module _ {start now : State} {s : Slot} {above : Option Slot} {rows : ℕ} {went
     told_before : (new : State) → new ≡ told_state m s above → engine_in new ≡ told e s above
     told_before new is = ap engine_in is ∙ ap (λ z. told z s above) as_before
 
-    pub wanted_before : {new : State} → new ≡ told_state m s above → HasWantedBehind rows (engine_in start) (engine_in new)
+    pub wanted_before : {new : State} → new ≡ told_state m s above → RanOutAfterTurns rows (engine_in start) (engine_in new)
     wanted_before {new} is = (told e s above, (r.ran, inl (r.allowed, ap is_some r.first, told_before new is)))
+
+    pub below_before : {until : ℕ} → now.next < until → {new : State} → new ≡ told_state m s above → RanOutBelow rows until (engine_in start) (engine_in new)
+    below_before left {new} is = (told e s above, (r.ran, (inl (r.allowed, ap is_some r.first, told_before new is), left)))
 
     pub before_next : {new : State} → new ≡ told_state m s above → new.next ≡ now.next
     before_next {new} is = ap (λ (z : PlainEngine). z.next) (told_before new is)
@@ -614,8 +617,11 @@ module _ {start now : State} {s : Slot} {above : Option Slot} {rows : ℕ} {went
       broke_told : IsBrokenAt (engine_in (given mw now.next)) s.query upto (engine_in new)
       broke_told p0 is = broke_here p0 is ∙ ap (λ ss. record (broken_at (engine_in (given m now.next)) s.query p0 upto) { slots = ss }) slots_leave
 
-      pub wanted_within : HasWantedBehind rows (engine_in start) (engine_in new)
+      pub wanted_within : RanOutAfterTurns rows (engine_in start) (engine_in new)
       wanted_within = (told e s above, (r.ran, one.wanted_within t turn rows r.sound r.first r.allowed r.numbers mw stopped_told upto reached_here new broke_told))
+
+      pub below_within : {until : ℕ} → now.next < until → RanOutBelow rows until (engine_in start) (engine_in new)
+      below_within left = (told e s above, (r.ran, (one.wanted_within t turn rows r.sound r.first r.allowed r.numbers mw stopped_told upto reached_here new broke_told, left)))
 
       pub within_next : new.next ≡ now.next + 1
       within_next = ap (λ (z : PlainEngine). z.next) (broke_here left_running.0 left_running.1)

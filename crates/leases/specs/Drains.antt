@@ -1,5 +1,5 @@
 -- What a drain does: turns go out and come back, and queries pass instants.
-use Rattle.std.specs.Prelude.{ℕ, Bool, true, false, ⊤, ◌≡◌, ◌⊎◌, None, Some, List, [], ◌∷◌, Result}
+use Rattle.std.specs.Prelude.{ℕ, Bool, true, false, ⊤, ◌≡◌, ◌<◌, ◌⊎◌, None, Some, List, [], ◌∷◌, Result}
 use Rattle.std.specs.Prelude.{Ok, Err}
 use Rattle.values.specs.Row.{Row}
 use Rattle.turn.specs.declared.turns.Turn.{Turn}
@@ -36,21 +36,26 @@ HaveRun rows old (s ∷ steps) new =
 abbrev pub SomeHaveRun : ℕ → PlainEngine → PlainEngine → Type 0
 SomeHaveRun rows old new = (steps : List Step) × HaveRun rows old steps new
 
--- one went out, and memory was wanted when it came back: its query is broken
+-- one went out, and memory ran out when it came back: its query is broken
 abbrev pub OneHasFailed : ℕ → PlainEngine → PlainEngine → Type 0
 OneHasFailed rows old new = (t : Turn)
     × ((out : PlainEngine) × (IsTurnOf old rows t out × IsCallStep out (Breaks (lease_of t)) new))
 
--- memory was wanted for a turn that might go out: nothing
--- was done, or it had gone out and broke its query
-abbrev pub HasWanted : ℕ → PlainEngine → PlainEngine → Type 0
-HasWanted rows old new = ((lease_fault old rows ≡ None) × HasReady old × (new ≡ old))
+-- memory ran out for a turn that might go out: nothing was done, or it had gone out and broke its
+-- query
+abbrev pub RanOutOfMemory : ℕ → PlainEngine → PlainEngine → Type 0
+RanOutOfMemory rows old new = ((lease_fault old rows ≡ None) × HasReady old × (new ≡ old))
     ⊎ OneHasFailed rows old new
 
--- memory was wanted behind turns that ran, of which there may be none
-abbrev pub HasWantedBehind : ℕ → PlainEngine → PlainEngine → Type 0
-HasWantedBehind rows old new =
-    (last : PlainEngine) × (SomeHaveRun rows old last × HasWanted rows last new)
+-- memory ran out after turns that ran, of which there may be none
+abbrev pub RanOutAfterTurns : ℕ → PlainEngine → PlainEngine → Type 0
+RanOutAfterTurns rows old new =
+    (last : PlainEngine) × (SomeHaveRun rows old last × RanOutOfMemory rows last new)
+
+-- and the number of the turn that lacked it is below an end
+abbrev pub RanOutBelow : ℕ → ℕ → PlainEngine → PlainEngine → Type 0
+RanOutBelow rows end old new = (last : PlainEngine)
+    × (SomeHaveRun rows old last × (RanOutOfMemory rows last new × (last.next < end)))
 
 -- one was done
 abbrev pub OneHasRun : ℕ → PlainEngine → PlainEngine → Type 0
@@ -62,18 +67,18 @@ OneOrMoreHaveRun rows old new =
     (last : PlainEngine) × (SomeHaveRun rows old last × OneHasRun rows last new)
 
 -- or no operator may take anything; a refused step did nothing where an operator may be leased and
--- as many turns are out as may be, or all numbers were given; or memory was wanted, behind turns
--- that ran
+-- as many turns are out as may be, or all numbers were given; or memory ran out, after turns that
+-- ran
 abbrev pub RunsFirst : PlainEngine → ℕ → Result Bool Fault → PlainEngine → Type 0
 RunsFirst old rows (Ok true) new = OneOrMoreHaveRun rows old new
 RunsFirst old rows (Ok false) new = (first_of old.slots ≡ None) × (new ≡ old)
 RunsFirst old rows (Err TooManyLeases) new = (new ≡ old) × IsFull old × HasReady old
-RunsFirst old rows (Err OutOfMemory) new = HasWantedBehind rows old new
+RunsFirst old rows (Err OutOfMemory) new = RanOutAfterTurns rows old new
 RunsFirst old rows (Err fault) new = ⊥
 
 -- A DRAIN by turns of at most so many rows: some have run; a refused one did nothing where that
 -- number is out of range, or ended where an operator may be leased and as many turns are out as may
--- be, or all numbers were given, or memory was wanted for a turn
+-- be, or all numbers were given, or memory ran out for a turn
 abbrev pub RunsTurns : PlainEngine → ℕ → Result ⊤ Fault → PlainEngine → Type 0
 RunsTurns old rows (Ok u) new = (drain_fault rows ≡ None) × SomeHaveRun rows old new
 RunsTurns old rows (Err BadLimit) new = (drain_fault rows ≡ Some BadLimit) × (new ≡ old)
@@ -81,7 +86,7 @@ RunsTurns old rows (Err TooManyLeases) new =
     (drain_fault rows ≡ None) × (SomeHaveRun rows old new × IsFull new × HasReady new)
 RunsTurns old rows (Err OutOfMemory) new =
     (drain_fault rows ≡ None) × ((last : PlainEngine)
-    × (SomeHaveRun rows old last × HasWanted rows last new))
+    × (SomeHaveRun rows old last × RanOutOfMemory rows last new))
 RunsTurns old rows (Err fault) new = ⊥
 
 -- A DRAIN OF A NUMBER OF TURNS, as one that goes on until nothing is ready
@@ -90,7 +95,7 @@ as_drained (Ok more) = Ok tt
 as_drained (Err fault) = Err fault
 
 -- THE TURNS OF OTHERS, that were out before
--- just those of one query ended, and it is broken
+-- exactly those of one query ended, and it is broken
 pub record HasBrokenOne (old new : PlainEngine) : Type 0 where
   pub query : ℕ
   pub answers : List (ℕ × Row)
@@ -98,7 +103,7 @@ pub record HasBrokenOne (old new : PlainEngine) : Type 0 where
   pub broken : remains_at new query ≡ Broken answers upto
   pub left : new.leases ≡ of_others query old.leases
 
--- they all are out, and no more; but where memory was wanted, a query may have broken
+-- they all are out, and no more; but where memory ran out, a query may have broken
 abbrev pub LeavesOthers : PlainEngine → Result ⊤ Fault → PlainEngine → Type 0
 LeavesOthers old (Ok u) new = new.leases ≡ old.leases
 LeavesOthers old (Err OutOfMemory) new = (new.leases ≡ old.leases) ⊎ HasBrokenOne old new

@@ -11,6 +11,7 @@ use answer_rows::AnswerRows;
 impl Engine {
     /// Takes the answers that a peek at this query with this limit showed, and leaves the engine as
     /// `take_flat` does. So whoever needs memory for the answers gets it before they are taken.
+    /// Between the peek and this call the query's first answers may not change: nothing is taken.
     /// Takes no memory.
     ///
     /// Example: `answers_are_taken_once_they_are_kept` in crates/uses/src/engine.rt.

@@ -5,7 +5,7 @@ ghost use Rattle.reference.specs.declared.fault.Fault.TheVariants.{BadLimit, Out
 ghost use Rattle.reference.specs.declared.fault.Fault.TheVariants.{TooManyLeases};
 ghost use Rattle.run_queue.specs.Slots.{first_of};
 ghost use Rattle.laws_engine.specs.Promises.{HasAllWaiting, KeepsItsPromises};
-ghost use Rattle.leases.specs.Drains.{LeavesOthers, RunsTurns, as_drained};
+ghost use Rattle.leases.specs.Drains.{LeavesOthers, RanOutBelow, RunsTurns, as_drained};
 ghost use Rattle.leases.specs.Shown.{engine_in};
 ghost use Rattle.leases.specs.Turns.{Abandons, Finishes, HasReady, Leases};
 ghost use Rattle.leases.specs.Whole.{HasNumbers, IsWhole};
@@ -105,6 +105,8 @@ impl Engine {
         ensures all { result ≡ Ok false → HasAllWaiting (engine_in self.new) }
         ensures fewer { result ≡ Err TooManyLeases
             → (engine_in self.new).next < (engine_in self.old).next + turns }
+        ensures below { result ≡ Err OutOfMemory → RanOutBelow rows
+            ((engine_in self.old).next + turns) (engine_in self.old) (engine_in self.new) }
         ensures looks { turns ≡ 0 → (engine_in self.new ≡ engine_in self.old)
             × IfErr result (λ fault. fault ≡ BadLimit) }
         ensures others { LeavesOthers (engine_in self.old) (as_drained result)

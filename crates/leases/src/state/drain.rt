@@ -9,8 +9,8 @@ ghost use Rattle.laws_queries.specs.Queries.{PlainQuery};
 ghost use Rattle.laws_engine.specs.Engines.{Running};
 ghost use Rattle.leases.specs.Applied.{GivesNothing, IsAbove};
 ghost use Rattle.leases.specs.Asked.{HasOperatorAt};
-ghost use Rattle.leases.specs.Drains.{HasWantedBehind, LeavesOthers, OneOrMoreHaveRun, RunsFirst};
-ghost use Rattle.leases.specs.Drains.{RunsTurns, as_drained};
+ghost use Rattle.leases.specs.Drains.{LeavesOthers, OneOrMoreHaveRun, RanOutAfterTurns};
+ghost use Rattle.leases.specs.Drains.{RanOutBelow, RunsFirst, RunsTurns, as_drained};
 ghost use Rattle.leases.specs.Readers.{next_for, with_slots, with_update};
 ghost use Rattle.leases.specs.Runs.{HasLast, HasRunIn, HasRunOn, HasStoppedIn, HasStoppedOn};
 ghost use Rattle.leases.specs.Runs.{MayRunIn, MayRunOn};
@@ -79,6 +79,8 @@ impl State {
         ensures last { result ≡ Ok true → self.new.next ≡ self.old.next + turns }
         ensures idle { result ≡ Ok false → first_of (engine_in self.new).slots ≡ None }
         ensures fewer { result ≡ Err TooManyLeases → self.new.next < self.old.next + turns }
+        ensures below { result ≡ Err OutOfMemory → RanOutBelow rows (self.old.next + turns)
+            (engine_in self.old) (engine_in self.new) }
         ensures looks { turns ≡ 0 → IfErr result (λ fault. fault ≡ BadLimit) }
         ensures whole { IsWhole self.old → result ≢ Err OutOfMemory → IsWhole self.new }
         ensures sound { IsSound self.new }
@@ -105,6 +107,8 @@ impl State {
         ensures last { result ≡ Ok true → self.new.next ≡ until }
         ensures idle { result ≡ Ok false → first_of (engine_in self.new).slots ≡ None }
         ensures fewer { result ≡ Err TooManyLeases → self.new.next < until }
+        ensures below { result ≡ Err OutOfMemory
+            → RanOutBelow rows until (engine_in self.old) (engine_in self.new) }
         ensures looks { OnErr result (self.old.next < until) }
         ensures whole { IsWhole self.old → result ≢ Err OutOfMemory → IsWhole self.new }
         ensures sound { IsSound self.new }
@@ -132,6 +136,8 @@ impl State {
         requires few { until ≤ LEASE_NUMBERS }
         requires left { self.old.next < LEASE_NUMBERS → self.old.next < until }
         ensures runs { RunsFirst (engine_in self.old) rows result (engine_in self.new) }
+        ensures below { result ≡ Err OutOfMemory
+            → RanOutBelow rows until (engine_in self.old) (engine_in self.new) }
         ensures most { self.old.next ≤ until → self.new.next ≤ until }
         ensures sound { IsSound self.new }
     {
@@ -162,7 +168,9 @@ impl State {
         requires numbers { self.old.next < until }
         ensures ok { OnOk result (OneOrMoreHaveRun rows (engine_in self.old) (engine_in self.new)) }
         ensures err { OnErr result
-            (HasWantedBehind rows (engine_in self.old) (engine_in self.new)) }
+            (RanOutAfterTurns rows (engine_in self.old) (engine_in self.new)) }
+        ensures below { OnErr result
+            (RanOutBelow rows until (engine_in self.old) (engine_in self.new)) }
         ensures most { self.new.next ≤ until }
         ensures sound { IsSound self.new }
     {
@@ -204,7 +212,9 @@ impl State {
         ensures told_sound { OnOk result (IsSound (told_state self.new slot.now above.now)) }
         ensures may_tell { OnOk result (MayTellBoth self.new slot.now above.now) }
         ensures err { OnErr result
-            (HasWantedBehind rows (engine_in self.old) (engine_in self.new)) }
+            (RanOutAfterTurns rows (engine_in self.old) (engine_in self.new)) }
+        ensures below { OnErr result
+            (RanOutBelow rows until (engine_in self.old) (engine_in self.new)) }
         ensures most { self.new.next ≤ until }
         ensures sound { OnErr result (IsSound self.new) }
     {

@@ -2,8 +2,8 @@
 use Rattle.std.proofs.Common.{◌≡◌, ◌≢◌, ◌<◌, ◌≤◌, Err, OnErr, refl, sym, ap, ◌∙◌, subst, arith}
 use Rattle.reference.specs.declared.fault.Fault.TheVariants.{OutOfMemory, TooManyLeases}
 use Rattle.run_queue.specs.Slots.{first_of}
-use Rattle.leases.proofs.DrainLemmas.{full_stays, has_none, has_run, have_given, none_run, refused_leaves, run_more, same_err, step_ends, step_stays, steps_count, steps_leave, steps_whole}
-use Rattle.leases.specs.Drains.{LeavesOthers, OneOrMoreHaveRun, RunsTurns, SomeHaveRun, as_drained}
+use Rattle.leases.proofs.DrainLemmas.{ends_below, full_stays, has_none, has_run, have_given, none_run, refused_leaves, run_more, same_err, step_ends, step_stays, steps_count, steps_leave, steps_whole}
+use Rattle.leases.specs.Drains.{LeavesOthers, OneOrMoreHaveRun, RanOutBelow, RunsTurns, SomeHaveRun, as_drained}
 use Rattle.leases.specs.Shown.{engine_in}
 use Rattle.leases.specs.Whole.{IsWholeEngine}
 use Rattle.leases.proofs.state.State.run_until.Goals as goal
@@ -35,6 +35,11 @@ returns-in_err-run_first-clause-fewer c = λ is.
     (λ full.
     let same : c.run_first.new.self.next ≡ c.turns.self.next = full_stays (engine_in c.turns.self) (engine_in c.run_first.new.self) c.args.rows c.in_err-run_first.field-0.0 full c.in_err-run_first.ensures.runs in
     omega (arith, same, c.turns-test.true)) is
+
+pub returns-in_err-run_first-clause-below : goal.returns-in_err-run_first-clause-below
+returns-in_err-run_first-clause-below c = λ is.
+    same_err c.from_residual.result c.in_err-run_first.field-0.0 (λ r. r ≡ Err OutOfMemory → RanOutBelow c.args.rows c.args.until (engine_in c.args.self.now) (engine_in c.run_first.new.self)) c.from_residual.ensures.1
+    (λ out. ends_below c.args.rows c.min.result c.args.until (engine_in c.args.self.now) (engine_in c.turns.self) (engine_in c.run_first.new.self) c.turns.invariant.runs (c.in_err-run_first.ensures.below out) (omega (arith, c.min.ensures))) is
 
 pub returns-in_err-run_first-clause-looks : goal.returns-in_err-run_first-clause-looks
 returns-in_err-run_first-clause-looks c =

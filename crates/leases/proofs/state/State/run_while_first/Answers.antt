@@ -3,7 +3,7 @@ use Rattle.std.proofs.Common.{◌≡◌, ◌+◌, arith}
 use Rattle.leases.specs.Shown.{engine_in}
 use Rattle.leases.proofs.InPlaceLemmas.{given}
 use Rattle.leases.proofs.StepLemmas.{may_look_here}
-use Rattle.leases.proofs.TurnsLemmas.{at_numbers, before_next, before_sound, begins, goes_again, last_then, last_within, may_break, may_run, may_tell_before, may_tell_then, next_looked, ran_then, reaches, sound_then, wanted_before, wanted_within, within_next, within_sound}
+use Rattle.leases.proofs.TurnsLemmas.{at_numbers, before_next, before_sound, begins, below_before, below_within, goes_again, last_then, last_within, may_break, may_run, may_tell_before, may_tell_then, next_looked, ran_then, reaches, sound_then, wanted_before, wanted_within, within_next, within_sound}
 use Rattle.leases.proofs.state.State.run_while_first.Goals as goal
 
 pub turns-init : goal.turns-init
@@ -43,6 +43,9 @@ update_slots-requires-clause-next c =
 pub returns-in-Err-Before-clause-err : goal.returns-in-Err-Before-clause-err
 returns-in-Err-Before-clause-err c = wanted_before c.turns.invariant.running c.run_query.ensures.rest c.in-Err-Before.field-0-is c.in-Err-Before.ensures.err c.update_slots.ensures
 
+pub returns-in-Err-Before-clause-below : goal.returns-in-Err-Before-clause-below
+returns-in-Err-Before-clause-below c = below_before c.turns.invariant.running c.run_query.ensures.rest c.in-Err-Before.field-0-is c.in-Err-Before.ensures.err c.turns.invariant.left c.update_slots.ensures
+
 pub returns-in-Err-Before-clause-sound : goal.returns-in-Err-Before-clause-sound
 returns-in-Err-Before-clause-sound c = before_sound c.turns.invariant.running c.run_query.ensures.rest c.in-Err-Before.field-0-is c.in-Err-Before.ensures.err c.update_slots.ensures
 
@@ -63,6 +66,12 @@ pub returns-in-Err-Within-clause-err : goal.returns-in-Err-Within-clause-err
 returns-in-Err-Within-clause-err c =
     wanted_within c.turns.invariant.running c.run_query.ensures.rest c.in-Err-Within.field-0-is c.in-Err-Within.ensures.err c.query-query.result c.query-query.ensures c.reach_of-reach.result.next
     (reaches c.turns.invariant.running c.run_query.ensures.rest c.in-Err-Within.field-0-is c.in-Err-Within.ensures.err c.query-query.result c.query-query.ensures c.index.result.now c.index.ensures c.turns.last c.turns.invariant.last c.reach_of-reach.ensures) c.break_query.new.self c.break_query.ensures.engine
+
+pub returns-in-Err-Within-clause-below : goal.returns-in-Err-Within-clause-below
+returns-in-Err-Within-clause-below c =
+    below_within c.turns.invariant.running c.run_query.ensures.rest c.in-Err-Within.field-0-is c.in-Err-Within.ensures.err c.query-query.result c.query-query.ensures c.reach_of-reach.result.next
+    (reaches c.turns.invariant.running c.run_query.ensures.rest c.in-Err-Within.field-0-is c.in-Err-Within.ensures.err c.query-query.result c.query-query.ensures c.index.result.now c.index.ensures c.turns.last c.turns.invariant.last c.reach_of-reach.ensures) c.break_query.new.self c.break_query.ensures.engine
+    c.turns.invariant.left
 
 pub returns-in-Err-Within-clause-sound : goal.returns-in-Err-Within-clause-sound
 returns-in-Err-Within-clause-sound c =

@@ -11,8 +11,8 @@ use answer_rows::AnswerRows;
 impl Engine {
     /// Takes the answers that a peek at this query with this limit showed, and leaves the engine as
     /// `take_flat` does. So whoever needs memory for the answers gets it before they are taken.
-    /// Between the peek and this call the query's first answers may not change: nothing is taken.
-    /// Takes no memory.
+    /// The answers that were shown must still be the query's first: call nothing else that takes
+    /// answers, or drops the query, in between. Takes no memory.
     ///
     /// Example: `answers_are_taken_once_they_are_kept` in crates/uses/src/engine.rt.
     pub fn take_shown(&mut self, query: u64, limit: i64, shown: &AnswerRows)

@@ -207,21 +207,11 @@ pub record GivesUp (old : PlainLocked) (lease : ℕ) (result : Result ⊤ Fault)
   pub legal : IsReplayed old
   pub abandons : Abandons (engine_at old) lease result (engine_at new)
 
--- A DRAIN IN PLACE: turns of at most so many rows run under the lock, one after the other, and
--- leave those that are out. Where it is done nothing is ready, and of each query that runs and of
--- which no turn is out all its closed answers wait that were not taken
+-- A DRAIN IN PLACE: turns of at most so many rows run under the lock, and leave those that are out.
+-- Each is of an operator that might be leased; those of different queries run in any order, also at
+-- the same time. Where it is done nothing is ready, and of each query that runs and of which no turn
+-- is out all its closed answers wait that were not taken
 pub record Drains (old : PlainLocked) (rows : ℕ) (result : Result ⊤ Fault)
-    (new : PlainLocked) : Type 0 where
-  pub legal : IsReplayed old
-  pub runs : RunsTurns (engine_at old) rows result (engine_at new)
-  pub others : LeavesOthers (engine_at old) result (engine_at new)
-  pub machine : (engine_at new).machine ≡ (engine_at old).machine
-  pub idle : OnOk result (first_of (engine_at new).slots ≡ None)
-  pub all : OnOk result (HasAllWaiting (engine_at new))
-
--- A DRAIN QUERY BY QUERY: the same, except that the turns of different queries run in any order,
--- also at the same time. Each is of an operator that might be leased
-pub record DrainsByQuery (old : PlainLocked) (rows : ℕ) (result : Result ⊤ Fault)
     (new : PlainLocked) : Type 0 where
   pub legal : IsReplayed old
   pub runs : RunsByQuery (engine_at old) rows result (engine_at new)

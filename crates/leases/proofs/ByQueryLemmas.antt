@@ -107,6 +107,32 @@ drained old mid new rows (Err Stranger) good none first h = absurd h
 drained old mid new rows (Err HistoryFull) good none first h = absurd h
 drained old mid new rows (Err (Foreign entries)) good none first h = absurd h
 
+-- and the same where the rest goes query by query too
+pub drained_on : (old mid new : PlainEngine) (rows : ℕ) (r : Result ⊤ Fault) → drain_fault rows ≡ None → SomeWereDone rows old mid → RunsByQuery mid rows r new → RunsByQuery old rows r new
+drained_on old mid new rows (Ok u) none first h = (none, done_on rows old mid new first h.1)
+drained_on old mid new rows (Err BadLimit) none first h = absurd (both_limits rows none h.0)
+drained_on old mid new rows (Err TooManyLeases) none first h = (none, (done_on rows old mid new first h.1.0, h.1.1, h.1.2))
+drained_on old mid new rows (Err OutOfMemory) none first h = (none, tried_on rows old mid new (tried rows old mid first) h.1)
+drained_on old mid new rows (Err (Query x)) none first h = absurd h
+drained_on old mid new rows (Err BadName) none first h = absurd h
+drained_on old mid new rows (Err NameTaken) none first h = absurd h
+drained_on old mid new rows (Err BadColumns) none first h = absurd h
+drained_on old mid new rows (Err TooMany) none first h = absurd h
+drained_on old mid new rows (Err UnknownStream) none first h = absurd h
+drained_on old mid new rows (Err UnknownQuery) none first h = absurd h
+drained_on old mid new rows (Err BadWidth) none first h = absurd h
+drained_on old mid new rows (Err ValueRange) none first h = absurd h
+drained_on old mid new rows (Err InstantRange) none first h = absurd h
+drained_on old mid new rows (Err Late) none first h = absurd h
+drained_on old mid new rows (Err Backward) none first h = absurd h
+drained_on old mid new rows (Err Leap) none first h = absurd h
+drained_on old mid new rows (Err StreamFull) none first h = absurd h
+drained_on old mid new rows (Err fault.Broken) none first h = absurd h
+drained_on old mid new rows (Err UnknownLease) none first h = absurd h
+drained_on old mid new rows (Err Stranger) none first h = absurd h
+drained_on old mid new rows (Err HistoryFull) none first h = absurd h
+drained_on old mid new rows (Err (Foreign entries)) none first h = absurd h
+
 -- WHAT A DRAIN GOES THROUGH
 pub ends : (old new : PlainEngine) (rows : ℕ) (r : Result ⊤ Fault) → RunsByQuery old rows r new → SomeWereTried rows old new
 ends old new rows (Ok u) h = (h.1.0, h.1.1.0)

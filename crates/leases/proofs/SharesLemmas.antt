@@ -1,8 +1,11 @@
--- Jobs that are cut into two parts: what holds of both holds of the whole.
-use Rattle.std.proofs.Common.{◌≡◌, ◌<◌, ◌≤◌, ◌+◌, ◌-◌, ◌++◌, ⊎_elim, ℕ, zero, suc, List, [], ◌∷◌, length, get_or, refl, sym, ap, ◌∙◌, subst, arith, length-append}
+-- Jobs that are cut into two parts, where what holds of both holds of the whole; and jobs that run
+-- one after the other.
+use Rattle.std.proofs.Common.{◌≡◌, ◌<◌, ◌≤◌, ◌+◌, ◌-◌, ◌++◌, ⊎_elim, ℕ, zero, suc, List, [], ◌∷◌, length, get_or, set, refl, sym, ap, ◌∙◌, subst, arith, length-append}
 use Rattle.std.proofs.lemmas.Bool.{cases_lt}
+use Rattle.std.proofs.lemmas.Grind.{get_or-set_at}
+use Rattle.std.proofs.lemmas.List.{get_or-set_other, get_or_default, length-set}
 use Rattle.reference.specs.Machine.{Stream}
-use Rattle.leases.specs.Jobs.{HasRunJob, HaveRunJobs, MayRunJobs}
+use Rattle.leases.specs.Jobs.{HasRunJob, HaveRunJobs, MayRunJob, MayRunJobs}
 use Rattle.leases.specs.declared.registered.Registration.{Registration}
 use Rattle.leases.specs.declared.state.jobs.Job.{Job}
 
@@ -45,3 +48,43 @@ both_shares streams all rows js a b a2 b2 e one two = record {
       (subst (HasRunJob streams all rows (get_or b k d)) (sym (back_at a2 b2 k i d at2)) (two.each k d within)))
       (cases_lt i (length a));
 }
+
+-- ONE AFTER THE OTHER: the jobs before a place have run, and the others are as they were
+pub record HaveSomeRun (streams : List Stream) (all : List Registration) (rows : ℕ) (js js2 : List Job) (k : ℕ) : Type 0 where
+  pub many : length js2 ≡ length js
+  pub done : (i : ℕ) (d : Job) → i < k → i < length js → HasRunJob streams all rows (get_or js i d) (get_or js2 i d)
+  pub left : (i : ℕ) (d : Job) → k ≤ i → get_or js2 i d ≡ get_or js i d
+
+pub none_has_run : (streams : List Stream) (all : List Registration) (rows : ℕ) (js : List Job) → HaveSomeRun streams all rows js js 0
+none_has_run streams all rows js = record {
+  many = refl;
+  done = λ i d before within. absurd (omega (arith, before));
+  left = λ i d from. refl;
+}
+
+pub all_have_run : (streams : List Stream) (all : List Registration) (rows : ℕ) (js js2 : List Job) (k : ℕ) → length js2 ≤ k → HaveSomeRun streams all rows js js2 k → HaveRunJobs streams all rows js js2
+all_have_run streams all rows js js2 k end h = record {
+  many = h.many;
+  each = λ i d lt. h.done i d (omega (arith, lt, end, h.many)) lt;
+}
+
+module _ (streams : List Stream) (all : List Registration) (rows : ℕ) (js js2 : List Job) (k : ℕ) (d0 : Job) where
+  pub may_next : k < length js2 → MayRunJobs streams all js → HaveSomeRun streams all rows js js2 k → MayRunJob streams all (get_or js2 k d0)
+  may_next lt may h =
+      let at : get_or js2 k d0 ≡ get_or js k d0 = h.left k d0 (omega arith) in
+      let within : k < length js = omega (arith, lt, h.many) in
+      may k (get_or js2 k d0) within (at ∙ get_or_default js k d0 (get_or js2 k d0) within)
+
+  pub one_has_run : (j2 : Job) → k < length js2 → HaveSomeRun streams all rows js js2 k → HasRunJob streams all rows (get_or js2 k d0) j2 → HaveSomeRun streams all rows js (set js2 k j2) (k + 1)
+  one_has_run j2 lt h one = record {
+    many = length-set js2 k j2 ∙ h.many;
+    done = λ i d before within. ⊎_elim
+        (λ (less : i < k).
+        subst (HasRunJob streams all rows (get_or js i d)) (sym (get_or-set_other js2 k i j2 d (λ same. absurd (omega (arith, same, less))))) (h.done i d less within))
+        (λ (most : k ≤ i).
+        let at : i ≡ k = omega (arith, most, before) in
+        let was : get_or js2 k d0 ≡ get_or js i d = h.left k d0 (omega arith) ∙ get_or_default js k d0 d (omega (arith, lt, h.many)) ∙ ap (λ n. get_or js n d) (sym at) in
+        subst (HasRunJob streams all rows (get_or js i d)) (sym (get_or-set_at js2 k i j2 d at lt)) (subst (λ z. HasRunJob streams all rows z j2) was one))
+        (cases_lt i k);
+    left = λ i d from. get_or-set_other js2 k i j2 d (λ same. absurd (omega (arith, same, from))) ∙ h.left i d (omega (arith, from));
+  }

@@ -1,7 +1,7 @@
 //! Answers what workers call. They need no seat.
 ghost use Rattle.std.specs.Prelude.{◌≡◌, IfErr, IfOk, MatchOption, Ok, false};
 ghost use Rattle.leases.specs.declared.leased.Leased.TheVariants.{Idle};
-ghost use Rattle.hub.specs.Steps.{PlainLocked, Drains, DrainsByQuery, DrainsSome, Ends, Forgets};
+ghost use Rattle.hub.specs.Steps.{PlainLocked, Drains, DrainsSome, Ends, Forgets};
 ghost use Rattle.hub.specs.Steps.{ForgetsWhenDue, GivesUp, Hands, HasEnded, IsReady, Lends, Rests};
 ghost use Rattle.hub.specs.Steps.{Withholds};
 ghost use Rattle.hub.specs.Tries.{MatchLeaseRest, MatchLeaseWait};
@@ -85,7 +85,7 @@ impl Hub {
         rows: u32,
         threads: usize,
     ) -> Result<(), Fault>
-        ensures { (old : PlainLocked) × (new : PlainLocked) × DrainsByQuery old rows result new }
+        ensures { (old : PlainLocked) × (new : PlainLocked) × Drains old rows result new }
     {
         let mut locked = self.locked.lock(rt);
         let answer = locked.drain_by_query(rt, rows, threads);

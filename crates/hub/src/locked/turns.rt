@@ -1,6 +1,6 @@
 //! Answers what workers call. None of it changes the history.
 ghost use Rattle.std.specs.Prelude.{◌≡◌, ◌<◌, IfOk, IfErr, IsTrue, length, false};
-ghost use Rattle.hub.specs.Steps.{Drains, DrainsByQuery, DrainsSome, Ends, GivesUp, Hands};
+ghost use Rattle.hub.specs.Steps.{Drains, DrainsSome, Ends, GivesUp, Hands};
 ghost use Rattle.hub.specs.Steps.{HasEnded, IsIdle, IsSame, Lends, Rests, SeesReady, Withholds};
 ghost use Rattle.hub.specs.Steps.{ended, engine_at, with_engine};
 ghost use Rattle.hub.specs.Tries.{MatchRested, MatchWaited};
@@ -68,7 +68,7 @@ impl Locked {
         threads: usize,
     ) -> Result<(), Fault>
         ensures step { self.new ≡ with_engine self.old self.new.engine }
-        ensures drains { DrainsByQuery self.old rows result self.new }
+        ensures drains { Drains self.old rows result self.new }
     {
         self.engine.drain_by_query(rt, rows, threads)
     }

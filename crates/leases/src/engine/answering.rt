@@ -17,7 +17,8 @@ ghost use Rattle.run_queue.specs.Slots.{first_of};
 ghost use Rattle.laws_engine.specs.Calls.{appended, declared, dropped, heartbeat_taken};
 ghost use Rattle.laws_engine.specs.Openings.{forgotten};
 ghost use Rattle.laws_engine.specs.Promises.{AreCompleteUpto, HasAllWaiting, KeepsItsPromises};
-ghost use Rattle.leases.specs.Drains.{LeavesOthers, RunsTurns};
+ghost use Rattle.leases.specs.ByQuery.{RunsByQuery};
+ghost use Rattle.leases.specs.Drains.{LeavesOthers};
 ghost use Rattle.leases.specs.Looks.{status_in_engine};
 ghost use Rattle.leases.specs.Queues.{LeavesQueues, LengthensQueues};
 ghost use Rattle.leases.specs.Registering.{Registers};
@@ -103,7 +104,6 @@ impl Answering for Engine {
         self.state.heartbeat(stream, at)
     }
 
-    #[tactic(auto, using(crate::proofs::DrainLemmas::drain_machine))]
     fn drain(&mut self, rows: u32) -> Result<(), Fault>
         ensures does { IsWhole self.old
             → Drains (world_in self.old) (drain_step (world_in self.old) rows) result
@@ -112,7 +112,7 @@ impl Answering for Engine {
         ensures spent { HasNumbers self.new → HasNumbers self.old }
         ensures numbers { IsWhole self.old → result ≡ Err TooManyLeases → ¬ HasNumbers self.new }
         ensures stays_whole { IsWhole self.old → result ≢ Err OutOfMemory → IsWhole self.new }
-        ensures runs { RunsTurns (engine_in self.old) rows result (engine_in self.new) }
+        ensures runs { RunsByQuery (engine_in self.old) rows result (engine_in self.new) }
         ensures others { LeavesOthers (engine_in self.old) result (engine_in self.new) }
         ensures machine { (engine_in self.new).machine ≡ (engine_in self.old).machine }
         ensures idle { OnOk result (first_of (engine_in self.new).slots ≡ None) }

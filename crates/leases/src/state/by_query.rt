@@ -1,4 +1,4 @@
-//! Drains each query by itself, in threads.
+//! Drains each query by itself, in this thread or in several.
 ghost use Rattle.std.specs.Prelude.{◌≡◌, ◌≢◌, ◌+◌, ◌++◌, ◌<◌, ◌≤◌, ◌∷◌, ℕ, Err, IfOk, List, None};
 ghost use Rattle.std.specs.Prelude.{OnErr, OnOk, [], length, set, true};
 ghost use Rattle.reference.specs.declared.fault.Fault.TheVariants.{OutOfMemory};
@@ -21,7 +21,7 @@ use crate::reader::Reader;
 use crate::remains::Remains;
 use crate::state::State;
 use crate::state::jobs::{Job, MOST_TURNS};
-use crate::state::shares::{run_jobs, work_of};
+use crate::state::shares::{run_all, run_jobs, work_of};
 use reference::{Fault, turn_fault};
 use std::alloc::AllocError;
 use std::mem::swap;
@@ -32,8 +32,65 @@ use std::thread::Threads;
 const ROWS_OF_A_THREAD: u64 = 1_024;
 
 impl State {
+    /// Drains the ready queries one after the other. Then runs what is left, turn by turn.
+    pub(crate) fn drain(&mut self, rows: u32) -> Result<(), Fault>
+        requires { IsSound self.old }
+        ensures runs { RunsByQuery (engine_in self.old) rows result (engine_in self.new) }
+        ensures others { LeavesOthers (engine_in self.old) result (engine_in self.new) }
+        ensures idle { OnOk result (first_of (engine_in self.new).slots ≡ None) }
+        ensures whole { IsWhole self.old → result ≢ Err OutOfMemory → IsWhole self.new }
+        ensures sound { IsSound self.new }
+    {
+        if let Some(fault) = turn_fault(rows) {
+            return Err(fault);
+        }
+        self.run_each(rows as usize)?;
+        self.run_turns(rows)
+    }
+
+    /// Drains the ready queries, one after the other. It does so only if no turn is out, and two
+    /// queries or more are ready.
+    ///
+    /// # Errors
+    /// `AllocError` when out of memory: a query broke.
+    fn run_each(&mut self, rows: usize) -> Result<(), AllocError>
+        requires sound { IsSound self.old }
+        requires some { 0 < rows }
+        ensures ok { OnOk result (SomeWereDone rows (engine_in self.old) (engine_in self.new)) }
+        ensures err { OnErr result (SomeWereTried rows (engine_in self.old) (engine_in self.new)) }
+        ensures others { (engine_in self.new).leases ≡ (engine_in self.old).leases }
+        ensures sound { IsSound self.new }
+    {
+        if self.leases.len() > 0 {
+            return Ok(());
+        }
+        if self.registered.len() < 2 {
+            return Ok(());
+        }
+        let Ok(mut jobs) = self.jobs() else {
+            return Ok(());
+        };
+        if jobs.len() < 2 {
+            return Ok(());
+        }
+        self.run_in_turn(&mut jobs, rows);
+        self.bring_home(jobs)
+    }
+
+    /// Lends the jobs their queries, and drains one after the other.
+    fn run_in_turn(&mut self, jobs: &mut [Job], rows: usize)
+        requires sound { IsSound self.old }
+        requires some { 0 < rows }
+        requires returned { (engine_in self.old).leases ≡ [] }
+        requires new { AreNewJobs self.old jobs.old }
+        ensures { AreOut (engine_in self.old) rows jobs.new self.new }
+    {
+        self.lend(jobs);
+        run_all(&self.streams, &self.registered, self.alloc, rows, jobs);
+    }
+
     /// Drains the ready queries, each by itself, in at most so many threads, if threads pay. Then
-    /// runs what is left, turn by turn.
+    /// runs what is left, as `drain` does.
     pub(crate) fn drain_by_query<R: Threads + Sync>(
         &mut self,
         rt: &R,

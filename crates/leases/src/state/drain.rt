@@ -33,23 +33,8 @@ use std::alloc::{AllocError, Global};
 use stream_store::Streams;
 
 impl State {
-    /// Runs turns of at most `rows` rows until no operator may take anything.
-    pub(crate) fn drain(&mut self, rows: u32) -> Result<(), Fault>
-        requires { IsSound self.old }
-        ensures runs { RunsTurns (engine_in self.old) rows result (engine_in self.new) }
-        ensures others { LeavesOthers (engine_in self.old) result (engine_in self.new) }
-        ensures idle { OnOk result (first_of (engine_in self.new).slots ≡ None) }
-        ensures whole { IsWhole self.old → result ≢ Err OutOfMemory → IsWhole self.new }
-        ensures sound { IsSound self.new }
-    {
-        if let Some(fault) = turn_fault(rows) {
-            return Err(fault);
-        }
-        self.run_turns(rows)
-    }
-
-    /// Runs one turn after the other until no operator may take anything.
-    fn run_turns(&mut self, rows: u32) -> Result<(), Fault>
+    /// Runs one turn of at most `rows` rows after the other until no operator may take anything.
+    pub(crate) fn run_turns(&mut self, rows: u32) -> Result<(), Fault>
         requires sound { IsSound self.old }
         requires accepted { drain_fault rows ≡ None }
         ensures runs { RunsTurns (engine_in self.old) rows result (engine_in self.new) }

@@ -1,4 +1,4 @@
-//! Drains the queries of jobs in threads, each thread with a share of the work.
+//! Drains the queries of jobs: in this thread, or in several, each with a share of the work.
 ghost use Rattle.std.specs.Prelude.{◌≡◌, ◌<◌, ◌≤◌, length};
 ghost use denote.Param.Send.{IsSync};
 ghost use Rattle.leases.specs.Jobs.{HasRunJob, HaveRunJobs, MayRunJob, MayRunJobs};
@@ -100,6 +100,23 @@ fn run_share<R: Threads + Sync>(
             job.exit.now }
     { run_job(job, streams, registered, alloc, rows) };
     thread::for_each_mut(rt, jobs, 1, &run);
+}
+
+/// Drains the queries of all jobs in this thread, one after the other.
+pub(crate) fn run_all(
+    streams: &Streams,
+    registered: &[Registration],
+    alloc: Global,
+    rows: usize,
+    jobs: &mut [Job],
+)
+    requires some { 0 < rows }
+    requires may { MayRunJobs streams.now registered.now jobs.old }
+    ensures { HaveRunJobs streams.now registered.now rows jobs.old jobs.new }
+{
+    for place in 0..jobs.len() {
+        run_job(&mut jobs[place], streams, registered, alloc, rows);
+    }
 }
 
 /// Returns the place at which to cut the jobs, so that the part before it has about `fewer` of

@@ -1,22 +1,21 @@
 -- Where no operator may take anything and all turns are back, all that is closed and not taken waits.
-use Rattle.std.proofs.Common.{◌<◌, ◌≤◌, arith, subst, sym}
-use Rattle.leases.proofs.WorldLemmas.{drains_are, drains_wait, plenty_has}
-use Rattle.leases.proofs.DrainLemmas.{wants_numbers}
+use Rattle.std.proofs.Common.{◌<◌, ◌≤◌, ◌∙◌, ap, arith, subst, sym}
 use Rattle.laws_engine.proofs.PromiseLemmas.{keeps_its_promises}
 use Rattle.reference.specs.World.{Drains, drain_step}
-use Rattle.leases.specs.Shown.{world_in}
-use Rattle.leases.specs.Shown.{engine_in}
-use Rattle.leases.specs.Whole.{IsWhole}
+use Rattle.leases.specs.Shown.{engine_in, world_in}
+use Rattle.leases.specs.Whole.{HasNumbers, IsWhole}
+use Rattle.leases.specs.declared.state.State.{State}
 use Rattle.leases.specs.declared.limits.TheConstants.{LEASE_NUMBERS}
-use Rattle.leases.specs.Whole.{HasNumbers}
-use Rattle.leases.proofs.NumberLemmas.{drain_gives, spent}
+use Rattle.leases.proofs.ByQueryLemmas.{by_query_does, by_query_gives, by_query_machine, wants_all}
+use Rattle.leases.proofs.NumberLemmas.{spent}
+use Rattle.leases.proofs.WorldLemmas.{drains_wait, plenty_has}
 use Rattle.leases.proofs.engine.answering.EngineAnswering.drain.Goals as goal
 
 pub returns-clause-does : goal.returns-clause-does
 returns-clause-does c =
     subst (λ s. IsWhole s → Drains (world_in s) (drain_step (world_in s) c.args.rows) c.drain.result (world_in c.drain.new.self)) c.self.view_is
     (λ whole.
-    drains_are (engine_in c.self.inside.state) (engine_in c.drain.new.self) c.args.rows c.drain.result c.drain.ensures.sound.good c.drain.ensures.sound.gone c.drain.ensures.runs c.drain.ensures.idle
+    by_query_does (engine_in c.self.inside.state) (engine_in c.drain.new.self) c.args.rows c.drain.result c.drain.ensures.sound.good c.drain.ensures.sound.gone c.drain.ensures.runs c.drain.ensures.idle
     (c.drain.ensures.whole whole))
 
 pub returns-clause-whole : goal.returns-clause-whole
@@ -32,11 +31,16 @@ pub returns-clause-numbers : goal.returns-clause-numbers
 returns-clause-numbers c = λ whole is some.
     let before : IsWhole c.self.inside.state = subst IsWhole (sym c.self.view_is) whole in
     let all : LEASE_NUMBERS ≤ c.drain.new.self.next =
-    wants_numbers (engine_in c.self.inside.state) (engine_in c.drain.new.self) c.args.rows c.drain.result c.drain.ensures.runs c.drain.ensures.others before.returned is in
+    wants_all (engine_in c.self.inside.state) (engine_in c.drain.new.self) c.args.rows c.drain.result c.drain.ensures.runs c.drain.ensures.others before.returned is in
     let left : c.drain.new.self.next < LEASE_NUMBERS = some in
     omega (arith, all, left)
 
 pub returns-clause-spent : goal.returns-clause-spent
 returns-clause-spent c =
     subst (λ s. HasNumbers c.drain.new.self → HasNumbers s) c.self.view_is
-    (spent (engine_in c.self.inside.state) (engine_in c.drain.new.self) (drain_gives (engine_in c.self.inside.state) (engine_in c.drain.new.self) c.args.rows c.drain.result c.drain.ensures.runs))
+    (spent (engine_in c.self.inside.state) (engine_in c.drain.new.self) (by_query_gives (engine_in c.self.inside.state) (engine_in c.drain.new.self) c.args.rows c.drain.result c.drain.ensures.runs))
+
+pub returns-clause-machine : goal.returns-clause-machine
+returns-clause-machine c =
+    by_query_machine (engine_in c.self.inside.state) (engine_in c.drain.new.self) c.args.rows c.drain.result c.drain.ensures.runs
+    ∙ ap (λ (s : State). (engine_in s).machine) c.self.view_is

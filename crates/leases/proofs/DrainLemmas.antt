@@ -93,6 +93,12 @@ limit_only e = absurd (cc)
 pub never_full : (rows : ℕ) (f : Fault) → Some f ≡ drain_fault rows → failed f ≡ failed TooManyLeases → ⊥
 never_full rows f h full = limit_only (sym (told_limit (not (nat_le 1 rows && nat_le rows MAX_TURN)) f h) ∙ same_fault full)
 
+pub never_out : (rows : ℕ) (f : Fault) → Some f ≡ drain_fault rows → failed f ≡ failed OutOfMemory → ⊥
+never_out rows f h out = never_both (sym (told_limit (not (nat_le 1 rows && nat_le rows MAX_TURN)) f h) ∙ same_fault out)
+  where
+    never_both : BadLimit ≡ OutOfMemory → ⊥
+    never_both e = absurd (cc)
+
 pub only_looked : (r : Result Bool Fault) (before until : ℕ) → OnErr r (before < until) → until ≤ before → IfErr r (λ f. f ≡ BadLimit)
 only_looked (Ok more) before until h none = tt
 only_looked (Err f) before until h none = absurd (omega (arith, h, none))
@@ -232,18 +238,6 @@ some_ran old new rows turns (Ok true) ran last idle some ready =
     omega (arith, all, some)
 some_ran old new rows turns (Ok false) ran last idle some ready = some_since rows ran.1.0 old new ran.1.1 ready (idle refl)
 some_ran old new rows turns (Err f) ran last idle some ready = tt
-
--- NUMBERS are wanted where no turn is out and a drain is refused a lease
-none_out : (e : PlainEngine) → (MAX_LEASES ≤ length e.leases) ⊎ (LEASE_NUMBERS ≤ e.next) → e.leases ≡ [] → LEASE_NUMBERS ≤ e.next
-none_out e (inl many) none = let few : length e.leases ≡ 0 = ap length none in absurd (omega (arith, many, few))
-none_out e (inr all) none = all
-
-pub wants_numbers : (old new : PlainEngine) (rows : ℕ) (r : Result ⊤ Fault) → RunsTurns old rows r new → LeavesOthers old r new → old.leases ≡ []
-    → r ≡ Err TooManyLeases → LEASE_NUMBERS ≤ new.next
-wants_numbers old new rows r ran leaves none is =
-    let ended : RunsTurns old rows (Err TooManyLeases) new = subst (λ (x : Result ⊤ Fault). RunsTurns old rows x new) is ran in
-    let left : new.leases ≡ old.leases = subst (λ (x : Result ⊤ Fault). LeavesOthers old x new) is leaves in
-    none_out new ended.1.1 (left ∙ none)
 
 -- THE MACHINE is as it was
 done_machine : (rows : ℕ) (s : Step) (e1 e2 : PlainEngine) → IsDone rows e1 s e2 → e2.machine ≡ e1.machine

@@ -18,8 +18,6 @@ use Rattle.laws_engine.specs.Promises.{GivesBeginnings, HasAllWaiting}
 use Rattle.laws_engine.proofs.IdleLemmas.{idle_reached, idle_waits}
 use Rattle.laws_engine.proofs.PromiseLemmas.{keeps_its_promises}
 use Rattle.laws_engine.proofs.UptoLemmas.{upto_taken}
-use Rattle.leases.proofs.DrainLemmas.{drain_machine}
-use Rattle.leases.specs.Drains.{RunsTurns}
 use Rattle.leases.specs.Sound.{is_gone}
 use Rattle.leases.specs.Takes.{Peeks, Takes, after_take, count_of}
 use Rattle.leases.specs.Whole.{IsWholeEngine}
@@ -143,30 +141,6 @@ module _ (old new : PlainEngine) (rows : ℕ) (machine : new.machine ≡ old.mac
   pub stops_early : GoodEngine new → drain_fault rows ≡ None → StopsEarly (world_of old) (drain_step (world_of old) rows) (world_of new)
   stops_early g none = record { machine = machine; lacks = drain_lacks none; next = λ before. waits_next new (keeps_its_promises new g).begins }
 
-  drain_stops : GoodEngine new → (f : Fault) → RunsTurns old rows (Err f) new → Drains (world_of old) (drain_step (world_of old) rows) (Err f) (world_of new)
-  drain_stops g BadLimit h = drain_refused BadLimit h.0 h.1
-  drain_stops g TooManyLeases h = stops_early g h.0
-  drain_stops g OutOfMemory h = stops_early g h.0
-  drain_stops g (Query x) h = absurd h
-  drain_stops g BadName h = absurd h
-  drain_stops g NameTaken h = absurd h
-  drain_stops g BadColumns h = absurd h
-  drain_stops g TooMany h = absurd h
-  drain_stops g UnknownStream h = absurd h
-  drain_stops g UnknownQuery h = absurd h
-  drain_stops g BadWidth h = absurd h
-  drain_stops g ValueRange h = absurd h
-  drain_stops g InstantRange h = absurd h
-  drain_stops g Late h = absurd h
-  drain_stops g Backward h = absurd h
-  drain_stops g Leap h = absurd h
-  drain_stops g StreamFull h = absurd h
-  drain_stops g fault.Broken h = absurd h
-  drain_stops g UnknownLease h = absurd h
-  drain_stops g Stranger h = absurd h
-  drain_stops g HistoryFull h = absurd h
-  drain_stops g (Foreign entries) h = absurd h
-
 -- A TAKE
 abbrev the_world : Machine → List (List (ℕ × Row)) → List ℕ → World
 the_world m ws us = record { machine = m; waiting = ws; upto = us }
@@ -251,12 +225,7 @@ module _ {A : Type 0} (view : A → List (ℤ × Row)) (old : PlainEngine) (n : 
   takes whole (Err (Foreign entries)) new h = take_refused new (Foreign entries) h.0 h.1
   takes whole (Err TooManyLeases) new h = take_refused new TooManyLeases h.0 h.1
 
--- BOTH, as clients see them
-pub drains_are : (old new : PlainEngine) (rows : ℕ) (r : Result ⊤ Fault) → GoodEngine new → map (λ q. q.is_dropped) new.machine.queries ≡ map is_gone new.queries → RunsTurns old rows r new
-    → OnOk r (first_of new.slots ≡ None) → (r ≢ Err OutOfMemory → IsWholeEngine new) → Drains (world_of old) (drain_step (world_of old) rows) r (world_of new)
-drains_are old new rows (Ok u) g gone runs idle whole = drain_done old new rows (drain_machine old new rows (Ok u) runs) runs.0 (all_wait new g (whole (λ e. cc)) idle gone) (all_reached new g (whole (λ e. cc)) idle gone) u
-drains_are old new rows (Err f) g gone runs idle whole = drain_stops old new rows (drain_machine old new rows (Err f) runs) g f runs
-
+-- WHERE IT IS DONE all waits
 pub drains_wait : (new : PlainEngine) (r : Result ⊤ Fault) → GoodEngine new → OnOk r (first_of new.slots ≡ None) → OnOk r (HasAllWaiting new)
 drains_wait new (Ok u) g idle = idle_waits new g idle
 drains_wait new (Err f) g idle = tt

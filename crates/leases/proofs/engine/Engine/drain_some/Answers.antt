@@ -1,11 +1,11 @@
 -- As a drain that goes on until nothing is ready; something has run where something was.
-use Rattle.std.proofs.Common.{◌≡◌, ◌≢◌, ◌<◌, ◌≤◌, IfErr, OnOk, arith, subst}
+use Rattle.std.proofs.Common.{◌≡◌, ◌≢◌, ◌<◌, ◌≤◌, ◌+◌, IfErr, OnOk, arith, subst}
 use Rattle.reference.specs.declared.fault.Fault.TheVariants.{BadLimit}
 use Rattle.laws_engine.proofs.IdleLemmas.{idle_waits}
 use Rattle.laws_engine.proofs.PromiseLemmas.{keeps_its_promises}
 use Rattle.leases.proofs.DrainLemmas.{drain_machine, looks_only, some_ran}
 use Rattle.leases.proofs.NumberLemmas.{drain_gives, spent}
-use Rattle.leases.specs.Drains.{as_drained}
+use Rattle.leases.specs.Drains.{RanOutBelow, as_drained}
 use Rattle.leases.specs.Shown.{engine_in}
 use Rattle.leases.specs.Turns.{HasReady}
 use Rattle.leases.specs.Whole.{HasNumbers}
@@ -15,6 +15,10 @@ pub returns-clause-some : goal.returns-clause-some
 returns-clause-some c =
     subst (λ s. c.args.turns ≢ 0 → HasReady (engine_in s) → OnOk c.drain_some.result (s.next < c.drain_some.new.self.next)) c.self.view_is
     (some_ran (engine_in c.self.inside.state) (engine_in c.drain_some.new.self) c.args.rows c.args.turns c.drain_some.result c.drain_some.ensures.runs c.drain_some.ensures.last c.drain_some.ensures.idle)
+
+pub returns-clause-below : goal.returns-clause-below
+returns-clause-below c = λ out.
+    subst (λ s. RanOutBelow c.args.rows (s.next + c.args.turns) (engine_in s) (engine_in c.drain_some.new.self)) c.self.view_is (c.drain_some.ensures.below out)
 
 pub returns-clause-looks : goal.returns-clause-looks
 returns-clause-looks c = λ none.

@@ -18,9 +18,9 @@ use wire::{ScriptFault, Sink, Source, answer_requests};
 /// of them was to forget and was answered `ok`.
 ///
 /// A drain runs turns of at most `rows` rows, 1 to 1,024. It ends at a moment when no operator may
-/// take anything and no turn is out. The calling thread runs what it can in place, with more threads
-/// if they pay: `workers` in all. A pool of so many runs the rest. If workers are not 1 to 64, each
-/// drain is answered `E14`.
+/// take anything and no turn is out. The calling thread runs what it can in place, with more
+/// threads if they pay: `workers` in all. A pool of so many runs the rest. If workers are not 1 to
+/// 64, each drain is answered `E14`.
 ///
 /// Each accepted command is a step of the hub. Its reply is that of the receipt which the seat then
 /// has. Other seats may call between two steps, so no more is known of a reply than of such a step.

@@ -185,8 +185,8 @@ fn a_drain_stops_after_some_turns<R: Print>(rt: &R, alloc: Global) -> Result<(),
 
 /// Shows a drain that takes query by query, in at most four threads.
 ///
-/// `p` asks for all rows, `q` for those above 3. So few rows wait that no thread is started. However
-/// many are, the answers are those of `drain`.
+/// `p` asks for all rows, `q` for those above 3. So few rows wait that no thread is started. The
+/// answers are those of `drain`, with threads too.
 fn a_drain_takes_query_by_query<R: Print + Threads + Sync>(
     rt: &R,
     alloc: Global,

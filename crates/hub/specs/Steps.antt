@@ -209,8 +209,8 @@ pub record GivesUp (old : PlainLocked) (lease : ℕ) (result : Result ⊤ Fault)
 
 -- A DRAIN IN PLACE: turns of at most so many rows run under the lock, and leave those that are out.
 -- Each is of an operator that might be leased; those of different queries run in any order, also at
--- the same time. Where it is done nothing is ready, and of each query that runs and of which no turn
--- is out all its closed answers wait that were not taken
+-- the same time. Where it is done nothing is ready: each query that runs and has no turn out holds
+-- all its closed answers that were not taken
 pub record Drains (old : PlainLocked) (rows : ℕ) (result : Result ⊤ Fault)
     (new : PlainLocked) : Type 0 where
   pub legal : IsReplayed old

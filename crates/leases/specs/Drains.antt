@@ -1,6 +1,6 @@
 -- What a drain does: turns go out and come back, and queries pass instants.
-use Rattle.std.specs.Prelude.{ℕ, Bool, true, false, ⊤, ◌≡◌, ◌<◌, ◌⊎◌, None, Some, List, [], ◌∷◌, Result}
-use Rattle.std.specs.Prelude.{Ok, Err}
+use Rattle.std.specs.Prelude.{ℕ, Bool, true, false, ⊤, ◌≡◌, ◌<◌, ◌⊎◌, None, Some, List, [], ◌∷◌}
+use Rattle.std.specs.Prelude.{Result, Ok, Err}
 use Rattle.values.specs.Row.{Row}
 use Rattle.turn.specs.declared.turns.Turn.{Turn}
 use Rattle.reference.specs.World.{drain_fault}

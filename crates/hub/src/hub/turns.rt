@@ -71,12 +71,11 @@ impl Hub {
         answer
     }
 
-    /// Drains in place, under the lock, each query by itself. If two queries or more are ready and
-    /// many rows wait, it does so in at most `threads` threads, which end before this returns. Turns
-    /// that are out stay out. Other calls wait meanwhile.
+    /// Drains in place, under the lock, in at most `threads` threads if they pay. They end before
+    /// this returns. Turns that are out stay out. Other calls wait meanwhile.
     ///
     /// # Errors
-    /// Those of `drain`. If a query runs out of memory, the turns of the others stay.
+    /// Those of `drain`.
     ///
     /// Example: `a_hub_drains_in_threads` in crates/uses/src/hubs.rt.
     pub fn drain_by_query<R: Threads + Wait + Sync>(

@@ -39,8 +39,8 @@ impl Locked {
         self.engine.abandon(lease)
     }
 
-    /// Drains in place, as `Engine::drain` does: runs turns of at most `rows` rows, one after the
-    /// other, until no operator is ready. Turns that are out stay out.
+    /// Drains in place, as `Engine::drain` does: runs turns of at most `rows` rows until no operator
+    /// is ready. Turns that are out stay out.
     ///
     /// # Errors
     /// `BadLimit` if `rows` is not 1 to 1,024. `TooManyLeases` if an operator is ready while 64
@@ -55,11 +55,11 @@ impl Locked {
         self.engine.drain(rows)
     }
 
-    /// Drains in place, as `Engine::drain_by_query` does: each query by itself, in at most `threads`
-    /// threads, which end before this returns. Turns that are out stay out.
+    /// Drains in place, as `Engine::drain_by_query` does, in at most `threads` threads if they pay.
+    /// They end before this returns. Turns that are out stay out.
     ///
     /// # Errors
-    /// Those of `drain`. If a query runs out of memory, the turns of the others stay.
+    /// Those of `drain`.
     #[tactic(auto, unfolding(crate::specs::Steps::engine_at))]
     pub fn drain_by_query<R: Threads + Sync>(
         &mut self,

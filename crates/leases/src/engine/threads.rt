@@ -14,20 +14,18 @@ use reference::Fault;
 use std::thread::Threads;
 
 impl Engine {
-    /// Runs turns in place until no operator may take anything, as `drain` does, and with the same
-    /// answers. If two queries or more are ready and many rows wait, each query is drained by
-    /// itself, in at most `threads` threads that end before this returns. Each thread gets a share
-    /// of the rows. A thread that the system refuses is left out.
+    /// Does what `drain` does, in at most `threads` threads if they pay. Each gets a share of the
+    /// ready queries, with about as many rows as the others. They end before this returns. The work
+    /// of a thread that the system refuses is done by the caller.
     ///
-    /// Each turn is of an operator that might be leased; those of different queries run in any
-    /// order. No thread is started if `threads` is 1 or 0, if a turn is out, or if each thread would
-    /// have fewer than some 1,024 rows, a row counted for each window. Then this is `drain`.
+    /// Threads pay if no turn is out and each has some 1,024 rows, a row counted for each window.
+    /// If they do not, or `threads` is 1 or 0, this is `drain`.
     ///
     /// # Errors
     /// `BadLimit` if `rows` is out of range; then nothing has changed. If an operator may take
     /// something: `TooManyLeases` if 64 turns are out or all numbers of turns were given;
     /// `OutOfMemory` when out of memory. The turns before stay. A turn that needed the memory did
-    /// nothing, or it broke its query; the other queries' turns stay.
+    /// nothing, or it broke its query. The turns of other queries stay.
     ///
     /// Example: `a_drain_takes_query_by_query` in crates/uses/src/engine.rt.
     pub fn drain_by_query<R: Threads + Sync>(

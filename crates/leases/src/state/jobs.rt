@@ -95,8 +95,8 @@ fn run_remains(
 /// Runs turns of a query in place until none of its operators may take anything. Where it has
 /// nothing to do at more than a few instants, it passes these instead.
 ///
-/// A pass is tried at the start and after the turns of the root, as a drain turn by turn does. After
-/// those of another operator something waits as a rule.
+/// A pass is tried at the start and after the turns of the root, as a drain turn by turn does.
+/// After those of another operator something waits as a rule.
 fn run_alone(
     query: &mut RunningQuery,
     streams: &Streams,

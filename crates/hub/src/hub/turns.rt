@@ -51,8 +51,8 @@ impl Hub {
         answer
     }
 
-    /// Drains in place, under the lock: runs turns of at most `rows` rows, one after the other,
-    /// until no operator is ready. Turns that are out stay out. Other calls wait meanwhile.
+    /// Drains in place, under the lock: runs turns of at most `rows` rows until no operator is
+    /// ready. Turns that are out stay out. Other calls wait meanwhile.
     ///
     /// # Errors
     /// `BadLimit` if `rows` is not 1 to 1,024. `TooManyLeases` if an operator is ready while 64

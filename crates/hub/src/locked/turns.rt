@@ -39,8 +39,8 @@ impl Locked {
         self.engine.abandon(lease)
     }
 
-    /// Drains in place, as `Engine::drain` does: runs turns of at most `rows` rows until no operator
-    /// is ready. Turns that are out stay out.
+    /// Drains in place, as `Engine::drain` does: runs turns of at most `rows` rows until no
+    /// operator is ready. Turns that are out stay out.
     ///
     /// # Errors
     /// `BadLimit` if `rows` is not 1 to 1,024. `TooManyLeases` if an operator is ready while 64

@@ -24,6 +24,9 @@ const QUERIES: [&str; 8] = [
 /// Limits the rows of a take.
 const LIMIT: i64 = 4_096;
 
+/// Counts more turns than any drain here has.
+const MANY: u64 = 1_000_000;
+
 /// Makes a hub with the stream S(a) and the queries.
 fn queried<R: Wait>(rt: &R, alloc: Global) -> Result<(Hub, Seat), Fault> {
     let (hub, mut seat) = opened(alloc)?;
@@ -71,7 +74,8 @@ fn are_same<R: Wait>(
     Ok(true)
 }
 
-/// Returns whether two drains by so many threads answer as two drains turn by turn.
+/// Returns whether two drains by so many threads answer as two drains turn by turn. With one thread
+/// such a drain is `drain`.
 fn answers_alike<R: Threads + Wait + Sync>(
     rt: &R,
     alloc: Global,
@@ -83,7 +87,7 @@ fn answers_alike<R: Threads + Wait + Sync>(
     for start in [0, 300] {
         fill(rt, alloc, &one, &mut first, start)?;
         fill(rt, alloc, &other, &mut second, start)?;
-        one.drain(rt, rows)?;
+        one.drain_some(rt, rows, MANY)?;
         other.drain_by_query(rt, rows, threads)?;
         if other.has_ready(rt) || !are_same(rt, &one, &mut first, &other, &mut second)? {
             return Ok(false);
@@ -119,7 +123,7 @@ fn turn_stays_out<R: Threads + Wait + Sync>(rt: &R, alloc: Global) -> Result<boo
     };
     other.finish(rt, done)?;
     other.drain_by_query(rt, 256, 4)?;
-    one.drain(rt, 256)?;
+    one.drain_some(rt, 256, MANY)?;
     are_same(rt, &one, &mut first, &other, &mut second)
 }
 

@@ -164,20 +164,24 @@ class Programs(unittest.TestCase):
             self.assertEqual(server.wait(PATIENCE), 0)
 
     def test_a_client_that_takes_nothing_is_closed_and_the_next_one_is_served(self) -> None:
-        rows = ",".join("[0,1099511627775]" for _ in range(4096))
+        rows = ",".join("[0,1099511627775]" for _ in range(1024))
         lines = [
             SETUP,
-            f'{{"op":"append","stream":"S","rows":[{rows}]}}\n',
+            f'{{"op":"append","stream":"S","rows":[{rows}]}}\n' * 4,
             '{"op":"heartbeat","stream":"S","at":0}\n{"op":"drain"}\n',
-            '{"op":"peek","query":"q","limit":4096}\n' * 1_000,  # some 60 MB of replies
         ]
+        peek = '{"op":"peek","query":"q","limit":4096}\n'
         with listening("--idle=1", "--serve=2") as (server, port):
-            with connected(port) as greedy:
-                greedy.sendall("".join(lines).encode())
+            with connected(port) as greedy, greedy.makefile("rb") as replies:
+                greedy.sendall("".join(lines).encode() + peek.encode())
+                self.assertEqual([replies.readline() for _ in range(8)], [DONE.encode()] * 8)
+                size = len(replies.readline())
+                self.assertGreater(size, 60_000)
+                greedy.sendall(peek.encode() * 1_000)
                 with connected(port) as other:
                     other.sendall(b'{"op":"drain"}\n')
                     self.assertEqual(other.recv(100), DONE.encode())
-                self.assertLess(len(rest_of(greedy)), 50_000_000)
+                self.assertLess(len(rest_of(greedy)), 1_000 * size)
             self.assertEqual(server.wait(PATIENCE), 0)
 
     def test_a_slow_client_keeps_its_place_without_idle(self) -> None:

@@ -72,6 +72,11 @@ class Following(Generic[Sent]):
         self._taking: tuple[Sent, int] | None = None
         self._looking: tuple[Sent | None, Sent | None, Sent] | None = None
 
+    @property
+    def unseen(self) -> list[Row]:
+        """Returns the answers in hand that were not handed out yet."""
+        return list(self.ready)
+
     def next_item(self) -> Any:
         """Returns the next answer in hand, decoded, and keeps it as handed out.
 
@@ -311,11 +316,6 @@ class Follow(Following["Pending"], Iterator[Item], Generic[Item]):
         trace: TracebackType | None,
     ) -> None:
         self._connection._advance(self._exit_steps(error is None), self._timeout)
-
-    @property
-    def unseen(self) -> list[Row]:
-        """Returns the answers in hand that were not handed out yet."""
-        return list(self.ready)
 
     def confirm(self) -> None:
         """Takes every answer that was handed out. Raises `OtherConsumer`, and as every call."""

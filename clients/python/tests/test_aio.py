@@ -265,6 +265,7 @@ class Async(Case):
                 self.assertEqual(await self.taken(it), 0)
                 await anext(follow)
                 self.assertEqual(await self.taken(it), 4)
+                self.assertEqual(follow.unseen, [[n, n] for n in range(5, 8)])
                 with self.assertRaises(KeyError):
                     async with it.follow("q") as answers:
                         async for row in answers:
@@ -289,6 +290,21 @@ class Async(Case):
                 answers_of_s = Answers("s", ALL, {"S": schema})
                 decoded = await anext(it.follow("q", decoder=answers_of_s))
                 self.assertEqual((decoded.instant, decoded.a), (14, 14))
+
+        self.run_in(main())
+
+    def test_unseen_answers_are_kept(self) -> None:
+        """Over a program without `peek`, which takes answers before they are handed out."""
+        standin = self.standin()
+        standin.faults = {"peek": "N2 BadRequest", "status": "N2 BadRequest"}
+
+        async def main() -> None:
+            async with self.fed(10, standin.port) as it:
+                follow = it.follow("q", limit=4)
+                self.assertEqual(await anext(follow), [0, 0])
+                self.assertEqual(standin.taken("q"), 4)
+                self.assertEqual(follow.unseen, [[1, 1], [2, 2], [3, 3]])
+                self.assertEqual(await anext(follow), [1, 1])
 
         self.run_in(main())
 

@@ -1,5 +1,7 @@
 """What the options of the programs mean, as a user meets them."""
 
+import ctypes
+import os
 import socket
 import subprocess
 import unittest
@@ -21,6 +23,10 @@ SETUP = (
 DONE = '{"ok":true}\n'
 
 CALLS = 100_100  # more than a history of 100,000 calls has room for
+
+LISTEN = "0A"  # the state of a socket in /proc/net/tcp
+LOOPBACK = "0100007F"  # 127.0.0.1 there
+PIDFD_GETFD = 438  # the number of the call that copies a file of another process
 
 
 def said(
@@ -93,6 +99,46 @@ def rest_of(connection: socket.socket) -> bytes:
     return b"".join(parts)
 
 
+def listeners(port: int) -> list[tuple[str, str]]:
+    """Returns where this machine listens at a port: tables of the kernel, and addresses there."""
+    found = []
+    for table in ("tcp", "tcp6"):
+        path = Path("/proc/net", table)
+        if not path.exists():
+            continue  # the machine has no IPv6
+        for line in path.read_text().splitlines()[1:]:
+            _, local, _, state, *_ = line.split()
+            address, number = local.split(":")
+            if state == LISTEN and int(number, 16) == port:
+                found.append((table, address))
+    return found
+
+
+def other_end(server: int, client: socket.socket) -> socket.socket:
+    """Returns a copy of a server's own end of a connection.
+
+    It is the same socket, so it has the options that the server set. The system lets the process
+    that started the server copy it.
+    """
+    system = ctypes.CDLL(None, use_errno=True)
+    process = os.pidfd_open(server)
+    try:
+        for path in Path(f"/proc/{server}/fd").iterdir():
+            if not path.is_socket():
+                continue
+            file = system.syscall(PIDFD_GETFD, process, int(path.name), 0)
+            if file < 0:
+                raise OSError(ctypes.get_errno(), "pidfd_getfd")
+            copy = socket.socket(fileno=file)
+            if copy.getsockopt(socket.SOL_SOCKET, socket.SO_ACCEPTCONN) == 0:
+                if copy.getpeername() == client.getsockname():
+                    return copy
+            copy.close()
+    finally:
+        os.close(process)
+    raise AssertionError("the server has no such connection")
+
+
 class Programs(unittest.TestCase):
     """Runs `cqlrun` and `cqld` by their command lines."""
 
@@ -118,20 +164,24 @@ class Programs(unittest.TestCase):
             self.assertEqual(server.wait(PATIENCE), 0)
 
     def test_a_client_that_takes_nothing_is_closed_and_the_next_one_is_served(self) -> None:
-        rows = ",".join("[0,1099511627775]" for _ in range(4096))
+        rows = ",".join("[0,1099511627775]" for _ in range(1024))
         lines = [
             SETUP,
-            f'{{"op":"append","stream":"S","rows":[{rows}]}}\n',
+            f'{{"op":"append","stream":"S","rows":[{rows}]}}\n' * 4,
             '{"op":"heartbeat","stream":"S","at":0}\n{"op":"drain"}\n',
-            '{"op":"peek","query":"q","limit":4096}\n' * 1_000,  # some 60 MB of replies
         ]
+        peek = '{"op":"peek","query":"q","limit":4096}\n'
         with listening("--idle=1", "--serve=2") as (server, port):
-            with connected(port) as greedy:
-                greedy.sendall("".join(lines).encode())
+            with connected(port) as greedy, greedy.makefile("rb") as replies:
+                greedy.sendall("".join(lines).encode() + peek.encode())
+                self.assertEqual([replies.readline() for _ in range(8)], [DONE.encode()] * 8)
+                size = len(replies.readline())
+                self.assertGreater(size, 60_000)
+                greedy.sendall(peek.encode() * 1_000)
                 with connected(port) as other:
                     other.sendall(b'{"op":"drain"}\n')
                     self.assertEqual(other.recv(100), DONE.encode())
-                self.assertLess(len(rest_of(greedy)), 50_000_000)
+                self.assertLess(len(rest_of(greedy)), 1_000 * size)
             self.assertEqual(server.wait(PATIENCE), 0)
 
     def test_a_slow_client_keeps_its_place_without_idle(self) -> None:
@@ -242,6 +292,41 @@ class Programs(unittest.TestCase):
             self.assertEqual(replies[:-1], [b'{"ok":true}\n'] * 5)
             self.assertEqual(replies[-1], b'{"ok":true,"rows":[[0,5],[0,6]]}\n')
             self.assertEqual(server.wait(PATIENCE), 0)
+
+    def test_a_burst_of_requests_is_answered_by_one_send(self) -> None:
+        # A window that slides makes a drain long. What one send has, one `recv` returns.
+        query = '{"op":"query","name":"w","text":"Select Istream(a) From S [Range 9 Slide 10]"}\n'
+        with listening("--serve=1") as (server, port):
+            with connected(port) as client:
+                client.sendall((SETUP + query).encode())
+                self.assertEqual(client.recv(1 << 16), (DONE * 3).encode())
+                for burst in range(5):
+                    lines = []
+                    for heartbeat in range(5):
+                        at = (5 * burst + heartbeat + 1) * 60_000
+                        lines.append(f'{{"op":"heartbeat","stream":"S","at":{at}}}\n')
+                        lines.append('{"op":"drain"}\n')
+                    client.sendall("".join(lines).encode())
+                    self.assertEqual(client.recv(1 << 16), (DONE * 10).encode())
+            self.assertEqual(server.wait(PATIENCE), 0)
+
+    def test_what_is_sent_leaves_at_once(self) -> None:
+        with listening("--serve=1") as (server, port):
+            with connected(port) as client:
+                client.sendall(b'{"op":"drain"}\n')
+                self.assertEqual(client.recv(100), DONE.encode())
+                try:
+                    end = other_end(server.pid, client)
+                except PermissionError:
+                    self.skipTest("this system lets nobody copy a socket of a child")
+                with end:
+                    option = end.getsockopt(socket.IPPROTO_TCP, socket.TCP_NODELAY)
+                self.assertEqual(option, 1)
+            self.assertEqual(server.wait(PATIENCE), 0)
+
+    def test_a_server_listens_only_on_loopback(self) -> None:
+        with listening() as (_, port):
+            self.assertEqual(listeners(port), [("tcp", LOOPBACK)])
 
     def test_workers_outlive_the_first_connection(self) -> None:
         setup = (

@@ -8,6 +8,8 @@
 #[cfg(test)]
 mod agreement;
 #[cfg(test)]
+mod changes;
+#[cfg(test)]
 mod fixture;
 #[cfg(test)]
 mod forgets;

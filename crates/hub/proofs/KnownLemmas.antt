@@ -30,6 +30,12 @@ lent old new rows t h = (old, new, h)
 pub turned : (w : Waited) (t : Turn) (F Q R : Type 0) (old new : PlainLocked) (rows : ℕ) → w ≡ waited.Turn t → MatchWaited w (λ x. F × Lends old rows x new) Q R → (old : PlainLocked) × (new : PlainLocked) × Lends old rows t new
 turned w t F Q R old new rows is h = let m : F × Lends old rows t new = subst (λ x. MatchWaited x (λ x. F × Lends old rows x new) Q R) is h in (old, new, m.1)
 
+-- before the end was called
+pub turned_before : (w : Waited) (t : Turn) (Q R : Type 0) (old new : PlainLocked) (rows : ℕ) → w ≡ waited.Turn t → MatchWaited w (λ x. (old.has_ended ≡ false) × Lends old rows x new) Q R
+    → (old : PlainLocked) × (new : PlainLocked) × (old.has_ended ≡ false) × Lends old rows t new
+turned_before w t Q R old new rows is h =
+    let m : (old.has_ended ≡ false) × Lends old rows t new = subst (λ x. MatchWaited x (λ x. (old.has_ended ≡ false) × Lends old rows x new) Q R) is h in (old, new, m.0, m.1)
+
 pub over : (w : Waited) (P : Turn → Type 0) (Q : Type 0) (old new : PlainLocked) → w ≡ waited.Ended → MatchWaited w P Q (HasEnded old new) → (old : PlainLocked) × (new : PlainLocked) × HasEnded old new
 over w P Q old new is h = let m : HasEnded old new = subst (λ x. MatchWaited x P Q (HasEnded old new)) is h in (old, new, m)
 
@@ -42,6 +48,9 @@ rested_by w P Q old new rows is h = let m : Rests old rows new = subst (λ x. Ma
 -- why none went out
 pub withheld : (f : Fault) (F : Type 0) (old new : PlainLocked) (rows : ℕ) → F × Withholds old rows f new → (old : PlainLocked) × (new : PlainLocked) × Withholds old rows f new
 withheld f F old new rows h = (old, new, h.1)
+
+pub withheld_before : (f : Fault) (old new : PlainLocked) (rows : ℕ) → (old.has_ended ≡ false) × Withholds old rows f new → (old : PlainLocked) × (new : PlainLocked) × (old.has_ended ≡ false) × Withholds old rows f new
+withheld_before f old new rows h = (old, new, h.0, h.1)
 
 pub withheld_or : (f : Fault) (old new : PlainLocked) (rows : ℕ) → Withholds old rows f new → (old : PlainLocked) × (new : PlainLocked) × Withholds old rows f new
 withheld_or f old new rows h = (old, new, h)

@@ -18,7 +18,7 @@ reached_further first many m next es e h run is all = record {
   count = ap (λ (n : ℕ). n + length es) h.count ∙ sym all;
 }
 
--- an opening that replaces no entry is still that of the machine that was told nothing: so was the one before it
+-- an opening that replaces no entry is still that of the machine that received nothing: so was the one before it
 pub opens_still : (first len : ℕ) (m last next : Machine) (es : List Entry) → (first ≡ 0 → m ≡ empty) → Replays m es last → len ≡ length es → (last ≡ empty → next ≡ empty) → OpensAt (first + len) next
 opens_still first len m last next [] opens run many after = record { nought = λ is. after (run ∙ opens (omega (arith, is))) }
 opens_still first len m last next (e ∷ es) opens run many after = record { nought = λ is. absurd (omega (arith, is, many)) }

@@ -10,12 +10,13 @@ use Rattle.laws_engine.specs.Engines.{PlainEngine}
 use Rattle.reference.specs.World.{drain_fault}
 use Rattle.leases.specs.Drains.{RunsTurns, as_drained}
 use Rattle.leases.specs.Turns.{HasReady, lease_fault}
+use Rattle.laws_engine.specs.Promises.{HasAllWaiting}
 use Rattle.leases.specs.declared.leased.Leased.TheVariants.{Idle}
 use Rattle.leases.specs.declared.limits.TheConstants.{LEASE_NUMBERS, MAX_LEASES}
 use Rattle.std.specs.Prelude.{IsTrue}
 use Rattle.leases.specs.Openings.{opening_in}
 use Rattle.histories.specs.Histories.{Replays}
-use Rattle.hub.specs.Steps.{DrainsSome, Hands, IsReady, IsReplayed, PlainLocked, SeesReady, engine_at, with_engine}
+use Rattle.hub.specs.Steps.{Hands, IsReady, IsReplayed, PlainLocked, SeesReady, engine_at, with_engine}
 
 pub none_ready : (e : PlainEngine) → first_of e.slots ≡ None → HasReady e → ⊥
 none_ready e none ready =
@@ -47,9 +48,10 @@ replayed_again : (old new : PlainLocked) → new ≡ with_engine old new.engine 
 replayed_again old new step same legal =
     subst (λ (l : PlainLocked). Replays (opening_in l.opening) l.history (engine_at new).machine) (sym step) (subst (λ m. Replays (opening_in old.opening) old.history m) (sym same) legal)
 
-pub was_idle : (old new : PlainLocked) (rows turns : ℕ) (r : Result Bool Fault) → new ≡ with_engine old new.engine → DrainsSome old rows turns r new → r ≡ Ok false → Hands new rows (Ok Idle) new
-was_idle old new rows turns r step d is = record {
-  legal = replayed_again old new step d.machine d.legal;
-  leases = (idle_fault (engine_at new) rows (subst (λ (x : Result Bool Fault). RunsTurns (engine_at old) rows (as_drained x) (engine_at new)) is d.runs).0 (d.idle is), d.idle is, refl);
-  idle = λ same. d.all is;
+pub would_idle : (old new : PlainLocked) (rows : ℕ) (r : Result Bool Fault) → new ≡ with_engine old new.engine → IsReplayed old → RunsTurns (engine_at old) rows (as_drained r) (engine_at new)
+    → (engine_at new).machine ≡ (engine_at old).machine → (r ≡ Ok false → first_of (engine_at new).slots ≡ None) → (r ≡ Ok false → HasAllWaiting (engine_at new)) → r ≡ Ok false → Hands new rows (Ok Idle) new
+would_idle old new rows r step legal runs machine idle all is = record {
+  legal = replayed_again old new step machine legal;
+  leases = (idle_fault (engine_at new) rows (subst (λ (x : Result Bool Fault). RunsTurns (engine_at old) rows (as_drained x) (engine_at new)) is runs).0 (idle is), idle is, refl);
+  idle = λ same. all is;
 }

@@ -24,6 +24,6 @@ pub record IsAccounted (l : PlainLedger) (seats : List PlainSeat) (count first :
 abbrev pub all_below : ℕ → List PlainSeat → ℕ
 all_below n seats = sum_by (λ (s : PlainSeat). count_below n s.receipts) seats
 
--- HOW MANY were compared by their numbers alone: before, and now
+-- HOW MANY were compared only by their numbers: before, and now
 abbrev pub alone : PlainLedger → List PlainSeat → ℕ → ℕ
 alone l seats first = l.by_number + all_below first seats

@@ -17,7 +17,7 @@ use Rattle.leases.specs.Takes.{Takes}
 abbrev pub AreOne : Reply × Reply × Reply × Reply → Type 0
 AreOne r = (r.1 ≡ r.0) × (r.2 ≡ r.0) × (r.3 ≡ r.0)
 
--- ONE CALL on the engine for a command, which answers this
+-- ONE CALL changes the engine for a command, which answers this
 abbrev pub IsCall : PlainEngine → Command → Reply → PlainEngine → Type 0
 IsCall old (Declare name columns start) r new = new ≡ declared old name columns start
 IsCall old (Register name text chart) r new = Registers old name text chart new
@@ -34,13 +34,13 @@ pub record Answered (old : PlainEngine) (c : Command) (r : Reply) (new : PlainEn
   pub step : IsStep old.machine c r new.machine
   pub call : IsCall old c r new
 
--- nothing waits of a broken query
+-- a broken query has no answer that waits
 abbrev pub IsSpent : PlainEngine → Command → Type 0
 IsSpent e (Take n limit) = (first_fault e.machine (Take n limit) ≡ None)
     × IsExhausted (remains_at e n)
 IsSpent e c = ⊥
 
--- the first test that fails, or want of memory, which may stand in
+-- the first test that fails, or out of memory, which may come in
 -- place of any, or that nothing waits; but none of a hub's own faults
 abbrev pub IsFirst : Option Fault → Type 0 → Fault → Type 0
 IsFirst first spent fault.OutOfMemory = ⊤

@@ -18,7 +18,7 @@ abbrev pub account_in : Account → PlainAccount
 account_in a = record { settled = a.settled; due = a.due.items }
 
 -- of all seats, by their numbers; how many calls of other hubs' seats were accepted;
--- how many calls are settled, and how many of these by their numbers alone
+-- how many calls are settled, and how many of these only by their numbers
 pub record PlainLedger : Type 0 where
   pub accounts : List PlainAccount
   pub strangers : ℕ
@@ -65,7 +65,7 @@ noted l seat n = noted_at l seat n (slice_get l.accounts seat)
 abbrev pub settled_of : PlainSeat → Settled
 settled_of s = record { count = s.settled.count + length s.receipts; until = own_reach s }
 
--- so much more is settled of a seat, some of it by numbers alone, and nothing is due
+-- so much more is settled of a seat, some of it only by numbers, and nothing is due
 abbrev pub cleared : PlainLedger → ℕ → Settled → ℕ → ℕ → PlainLedger
 cleared l seat s count by_number = record {
   accounts = set l.accounts seat (record { settled = s; due = [] });

@@ -7,7 +7,7 @@ use Rattle.histories.specs.Histories.{Entry, Replays}
 
 -- THE STRETCHES LEAD TO A MACHINE: one list of entries for each forget, the latest first. Each
 -- replays from where the one before it led, and then the engine forgets; the first of all starts
--- from the machine that was told nothing
+-- from the machine that received nothing
 abbrev pub Lead : List (List Entry) → Machine → Type 0
 Lead [] m = m ≡ empty
 Lead (es ∷ earlier) m = (start : Machine) × (e : PlainEngine) × Lead earlier start

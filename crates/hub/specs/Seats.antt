@@ -9,8 +9,8 @@ abbrev pub unsettled : Settled
 unsettled = record { count = 0; until = 0 }
 
 -- a seat: its number, the receipts of its own calls that are not settled, which of its
--- calls are settled, and one more than the greatest number that it was told of other
--- seats' receipts, 0 where it was told of none
+-- calls are settled, and one more than the greatest number that it learnt of other
+-- seats' receipts, 0 if it learnt of none
 pub record PlainSeat : Type 0 where
   pub number : ℕ
   pub receipts : List Told

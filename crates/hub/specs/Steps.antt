@@ -1,4 +1,4 @@
--- What lies under the lock, and its steps: each is one call on the engine, or none.
+-- What lies under the lock, and its steps: each changes the engine by one call at most.
 use Rattle.std.specs.Prelude.{◌≡◌, ℕ, ◌+◌, ◌<◌, ◌≤◌, ◌^◌, ◌⊎◌, List, [], ◌∷◌, ◌++◌, length, Bool}
 use Rattle.std.specs.Prelude.{false, true, Option, None, Result, Ok, Err, ⊤, IfErr, OnErr, OnOk}
 use Rattle.std.specs.Prelude.{◌≢◌, ◌↔◌, IfOk, IsTrue, Some, ℤ}
@@ -36,9 +36,9 @@ use Rattle.hub.specs.Seats.{PlainSeat, reach}
 use Rattle.hub.specs.Ledgers.{Agrees, PlainLedger, cleared_of, noted, opened_for, settled_of}
 use Rattle.hub.specs.Calls.{Answered, Refused}
 
--- the engine as it is kept, the opening that the history begins with and how many entries it stands
--- for, the entries of the history, how many it may have, how many seats there are, what is kept of
--- their calls, and whether the end was called
+-- the engine as it is kept, the opening that the history starts from and how many entries it
+-- replaces, the entries of the history, how many it may have, how many seats there are, what is
+-- kept of their calls, and whether the end was called
 pub record PlainLocked : Type 0 where
   pub engine : State
   pub opening : Opening
@@ -62,11 +62,11 @@ with_engine l s = record l { engine = s }
 abbrev pub IsSame : PlainLocked → PlainLocked → Type 0
 IsSame old new = (new ≡ with_engine old new.engine) × (engine_at new ≡ engine_at old)
 
--- the history leads from the machine that it begins with to the engine's
+-- the history leads from the machine that it starts from to the engine's
 abbrev pub IsReplayed : PlainLocked → Type 0
 IsReplayed l = Replays (opening_in l.opening) l.history (engine_at l).machine
 
--- AN OPENING THAT STANDS FOR NO ENTRY is that of a machine that was told nothing
+-- AN OPENING THAT REPLACES NO ENTRY is that of a machine that received nothing
 pub record OpensAt (first : ℕ) (m : Machine) : Type 0 where
   pub nought : first ≡ 0 → m ≡ empty
 
@@ -81,8 +81,8 @@ HasRoom l = (length l.history < l.limit) × (next_number l < 2 ^ 63)
 abbrev pub IsFull : PlainLocked → Type 0
 IsFull l = (l.limit ≤ length l.history) ⊎ (2 ^ 63 ≤ next_number l)
 
--- AN ACCEPTED COMMAND of a seat: one call on the engine, one entry, one receipt, and
--- its number is due. It is above all that the seat settled, holds or has learnt
+-- AN ACCEPTED COMMAND of a seat: one call changes the engine, there is one entry and one receipt,
+-- and its number is due. It is above all that the seat settled, holds or has learnt
 pub record Accepted (old : PlainLocked) (seat : PlainSeat) (c : Command) (r : Told)
     (new : PlainLocked) (seat' : PlainSeat) : Type 0 where
   pub legal : IsReplayed old
@@ -130,8 +130,8 @@ pub record IsFresh (l : PlainLocked) (seats limit : ℕ) : Type 0 where
   pub ledger : l.ledger ≡ opened_for seats
   pub going : l.has_ended ≡ false
 
--- WHERE IT FORGETS the engine does, and the history begins anew with the machine that is
--- left: no entry is in it, and numbers go on. Where memory is refused nothing is changed
+-- IF IT FORGETS, the engine does, and the history restarts from the machine that is left: no entry
+-- is in it, and numbers go on. If it runs out of memory, nothing changes
 abbrev pub HasForgotten : PlainLocked → PlainLocked → Type 0
 HasForgotten old new = (engine_at new ≡ forgotten (engine_at old))
     × (opening_in new.opening ≡ (forgotten (engine_at old)).machine)
@@ -209,8 +209,8 @@ pub record GivesUp (old : PlainLocked) (lease : ℕ) (result : Result ⊤ Fault)
 
 -- A DRAIN IN PLACE: turns of at most so many rows run under the lock, and leave those that are out.
 -- Each is of an operator that might be leased; those of different queries run in any order, also at
--- the same time. Where it is done nothing is ready: each query that runs and has no turn out holds
--- all its closed answers that were not taken
+-- the same time. After it nothing is ready. Each query that runs and has no turn out then holds all
+-- its closed answers that were not taken
 pub record Drains (old : PlainLocked) (rows : ℕ) (result : Result ⊤ Fault)
     (new : PlainLocked) : Type 0 where
   pub legal : IsReplayed old
@@ -220,9 +220,9 @@ pub record Drains (old : PlainLocked) (rows : ℕ) (result : Result ⊤ Fault)
   pub idle : OnOk result (first_of (engine_at new).slots ≡ None)
   pub all : OnOk result (HasAllWaiting (engine_at new))
 
--- A DRAIN OF SOME TURNS: at most so many run under the lock, as in a drain. If an operator may
--- still take something, just so many have run; if none may, it is as at the end of a drain. With no
--- turn to run nothing changes
+-- A DRAIN OF SOME TURNS: at most that many run under the lock, as in a drain. If an operator may
+-- still take something, exactly that many have run. If none may, it is as at the end of a drain,
+-- and a lease would be idle in the very state that is left. With no turn to run nothing changes
 pub record DrainsSome (old : PlainLocked) (rows turns : ℕ) (result : Result Bool Fault)
     (new : PlainLocked) : Type 0 where
   pub legal : IsReplayed old
@@ -236,6 +236,7 @@ pub record DrainsSome (old : PlainLocked) (rows turns : ℕ) (result : Result Bo
   pub last : result ≡ Ok true → (engine_at new).next ≡ (engine_at old).next + turns
   pub idle : result ≡ Ok false → first_of (engine_at new).slots ≡ None
   pub all : result ≡ Ok false → HasAllWaiting (engine_at new)
+  pub rest : result ≡ Ok false → Hands new rows (Ok leased.Idle) new
   pub fewer : result ≡ Err TooManyLeases → (engine_at new).next < (engine_at old).next + turns
   pub looks : turns ≡ 0 → (engine_at new ≡ engine_at old) × IfErr result (λ f. f ≡ BadLimit)
 
@@ -249,8 +250,8 @@ pub record Withholds (old : PlainLocked) (rows : ℕ) (f : Fault) (new : PlainLo
   pub legal : IsReplayed old
   pub refuses : Leases (engine_at old) rows (Err f) (engine_at new)
 
--- nothing is ready: of each query that runs and of which no
--- turn is out, all its closed answers wait that were not taken
+-- nothing is ready: each query that runs and has no
+-- turn out holds all its closed answers that were not taken
 pub record IsIdle (old : PlainLocked) (rows : ℕ) (new : PlainLocked) : Type 0 where
   pub legal : IsReplayed old
   pub idle : Leases (engine_at old) rows (Ok leased.Idle) (engine_at new)
@@ -296,7 +297,7 @@ pub record SeesPending {A : Type 0} (view : A → List ℕ) (l : PlainLocked) (q
   pub legal : IsReplayed l
   pub is : IsPending view (engine_at l) query result
 
--- how far each stream and each query is; of each all answers up to there wait or were taken
+-- how far each stream and each query is; all its answers up to there wait or were taken
 pub record SeesStatus (l : PlainLocked) (result : Result Status Fault) : Type 0 where
   pub legal : IsReplayed l
   pub is : IfOk result (λ s. status_in s ≡ status_in_engine (engine_at l))
@@ -316,21 +317,21 @@ pub record SeesSlopes {A : Type 0} (view : A → List (Kind × Fraction)) (l : P
   pub is : Looks view (slopes_at (world_of (engine_at l)) query) result
 
 -- WHAT A SEAT KNOWS of its call: what lay under the lock had a
--- legal history, and took the command just so, or refused it
+-- legal history, and took exactly this command, or refused it
 abbrev pub Took : PlainSeat → Command → Told → PlainSeat → Type 0
 Took seat c r seat' = (old : PlainLocked) × (new : PlainLocked) × Accepted old seat c r new seat'
 
 abbrev pub Spurned : PlainSeat → Command → Fault → PlainSeat → Type 0
 Spurned seat c f seat' = (old : PlainLocked) × (new : PlainLocked) × Declined old seat c f new seat'
 
--- A CALL THAT NAMES a stream or a query: its number is what the name has in that very step
+-- A CALL THAT NAMES a stream or a query: its number is what the name has in that very state
 abbrev pub AcceptedNamed : (Machine → List ℕ → Option ℕ) → List ℕ → (ℕ → Command) → PlainLocked
     → PlainSeat → Told → PlainLocked → PlainSeat → Type 0
 AcceptedNamed number_of name command old seat r new seat' =
     (n : ℕ) × (number_of (engine_at old).machine name ≡ Some n)
     × Accepted old seat (command n) r new seat'
 
--- refused so; or nothing has that name, which is the fault
+-- refused by that number; or nothing has that name, which is the fault
 abbrev pub DeclinedNamed : (Machine → List ℕ → Option ℕ) → List ℕ → Fault → (ℕ → Command)
     → PlainLocked → PlainSeat → Fault → PlainLocked → PlainSeat → Type 0
 DeclinedNamed number_of name unknown command old seat f new seat' =

@@ -28,13 +28,13 @@ use turn::Turn;
 /// opened with.
 ///
 /// Each call except `open` and `close` waits for the one lock, and runs one step of `Locked` under
-/// it. A call that waits runs one step for each try.
+/// it. Then it may look whom to wake. A call that waits runs one step for each try.
 #[derive(Drop)]
 pub struct Hub {
     /// Holds the engine with its history.
     locked: Mutex<Locked>,
-    /// Wakes the threads that wait, after each step that may make an operator ready or bring back
-    /// the last turn, and after the end.
+    /// Wakes the threads that wait for a turn, for a change, or until no turn is out. The README of
+    /// this crate lists the calls that wake them.
     moved: Condvar,
     /// Counts the seats that were opened.
     seats: u64,

@@ -1,11 +1,11 @@
 //! Tests that a hub answers as an engine of one thread does.
 
-use crate::fixture::{declare, entries_of, opened, ready, register};
+use crate::fixture::{NOW, columns, declare, entries_of, opened, ready, register, rows};
 use crate::scripts::is_answered_by;
-use hub::Hub;
-use leases::Leased;
+use hub::{Hub, Seat};
+use leases::{Engine, Leased};
 use plan::Chart;
-use reference::Fault;
+use reference::{Answering, Fault, QueryStatus, Status, StreamStatus};
 use served::serve_connection;
 use std::alloc::{AllocError, Global};
 use std::sync::Wait;
@@ -317,5 +317,79 @@ fn looks_are_those_of_an_engine(rt: HostRuntime) -> Result<(), Fail> {
     let (hub, _) = ready(&rt, rt.alloc(), 5)?;
     assert!(rt; are_looks_right(&rt, &hub)?);
     assert_eq!(rt; hub.pending(&rt, 1).err(), Some(Fault::UnknownQuery));
+    Ok(())
+}
+
+// Holds three rows, of which one is open once the instants up to 3 are closed.
+const ROWS: [(i64, i64); 3] = [(3, 7), (1, 5), (4, 6)];
+
+// Makes a hub that answered two rows, of which one was taken.
+fn answered_by_a_hub<R: Wait>(rt: &R, alloc: Global) -> Result<(Hub, Seat), Fault> {
+    let (hub, mut seat) = opened(alloc)?;
+    declare(rt, alloc, &hub, &mut seat)?;
+    register(rt, alloc, &hub, &mut seat, "q", None)?;
+    hub.append(rt, &mut seat, 0, rows(alloc, &ROWS)?)?;
+    hub.heartbeat(rt, &mut seat, 0, 3)?;
+    hub.drain(rt, 256)?;
+    hub.take(rt, &mut seat, 0, 1)?;
+    Ok((hub, seat))
+}
+
+// Makes an engine that got the same calls.
+fn answered_by_an_engine(alloc: Global) -> Result<Engine, Fault> {
+    let mut engine = Engine::new(alloc);
+    let columns = columns(alloc, &["a"])?;
+    engine.stream("S", columns.as_slice(), 0)?;
+    engine.query("q", NOW, None)?;
+    let rows = rows(alloc, &ROWS)?;
+    engine.append(0, &rows)?;
+    engine.heartbeat(0, 3)?;
+    engine.drain(256)?;
+    engine.take(0, 1)?;
+    Ok(engine)
+}
+
+fn is_same_query(one: &QueryStatus, other: &QueryStatus) -> bool {
+    one.name.as_str() == other.name.as_str()
+        && (one.base, one.taken, one.waiting) == (other.base, other.taken, other.waiting)
+        && (one.upto, one.is_broken) == (other.upto, other.is_broken)
+}
+
+fn is_same_stream(one: &StreamStatus, other: &StreamStatus) -> bool {
+    one.name.as_bytes() == other.name.as_bytes()
+        && one.columns.len() == other.columns.len()
+        && (one.closed, one.rows) == (other.closed, other.rows)
+}
+
+// Returns whether two are equal, of one query and one stream.
+fn is_same_status(one: &Status, other: &Status) -> bool {
+    match (
+        one.queries.as_slice(),
+        one.streams.as_slice(),
+        other.queries.as_slice(),
+        other.streams.as_slice(),
+    ) {
+        ([query], [stream], [other_query], [other_stream]) => {
+            is_same_query(query, other_query) && is_same_stream(stream, other_stream)
+        }
+        _ => false,
+    }
+}
+
+// Returns whether a hub shows the answer that waits and how far all is as an engine does.
+fn are_shown_so<R: Wait>(rt: &R, hub: &Hub, engine: &Engine) -> Result<bool, Fault> {
+    let shown = hub.peek(rt, 0, 100)?;
+    let status = hub.status(rt)?;
+    let is_shown = shown.len() == 1 && shown.is_same(&engine.peek(0, 100)?);
+    Ok(is_shown && is_same_status(&status, &engine.status()?))
+}
+
+#[test]
+fn peek_and_status_are_those_of_an_engine(rt: HostRuntime) -> Result<(), Fail> {
+    let (hub, seat) = answered_by_a_hub(&rt, rt.alloc())?;
+    let engine = answered_by_an_engine(rt.alloc())?;
+    assert!(rt; are_shown_so(&rt, &hub, &engine)?);
+    // neither made an entry: stream, query, append, heartbeat and take are there
+    assert_eq!(rt; entries_of(rt.alloc(), hub, seat)?, Some(5));
     Ok(())
 }

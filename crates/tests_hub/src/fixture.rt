@@ -1,6 +1,6 @@
 //! Makes hubs with a stream S(a), and queries over it.
 
-use hub::{Hub, Receipt, Seat};
+use hub::{Closed, Hub, Receipt, Seat};
 use plan::Chart;
 use reference::{Fault, NewRows};
 use std::alloc::{AllocError, Global};
@@ -32,15 +32,20 @@ pub(crate) fn opened_for(alloc: Global, entries: u64) -> Result<(Hub, Seat), Fau
     }
 }
 
-/// Returns how many entries the history of a hub with this one seat has, or `None` if it does not
-/// close.
-pub(crate) fn entries_of(alloc: Global, hub: Hub, seat: Seat) -> Result<Option<usize>, Fault> {
+/// Closes a hub with this one seat. Returns `None` if it does not close.
+pub(crate) fn closed_with(alloc: Global, hub: Hub, seat: Seat) -> Result<Option<Closed>, Fault> {
     let mut seats = Vec::new(alloc);
     seats.reserve(1)?;
     seats.push_reserved(seat);
-    match hub.close(seats) {
-        Ok(closed) => Ok(Some(closed.entries.len())),
-        Err(_) => Ok(None),
+    Ok(hub.close(seats).ok())
+}
+
+/// Returns how many entries the history of a hub with this one seat has, or `None` if it does not
+/// close.
+pub(crate) fn entries_of(alloc: Global, hub: Hub, seat: Seat) -> Result<Option<usize>, Fault> {
+    match closed_with(alloc, hub, seat)? {
+        Some(closed) => Ok(Some(closed.entries.len())),
+        None => Ok(None),
     }
 }
 

@@ -1,7 +1,8 @@
 //! Tests seats that settle: their receipts are compared and let go, and the hub still closes.
 
-use crate::fixture::{declare, opened_for, register, rows};
-use hub::{Closed, Hub, Seat};
+use crate::fixture::{closed_with, declare, opened_for, register, rows};
+use hub::{Hub, Seat};
+use leases::Opening;
 use reference::Fault;
 use std::alloc::Global;
 use std::sync::Wait;
@@ -26,14 +27,6 @@ const ROWS: [(&str, (u64, usize, u64, u64)); 9] = [
 fn append<R: Wait>(rt: &R, alloc: Global, hub: &Hub, seat: &mut Seat) -> Result<(), Fault> {
     hub.append(rt, seat, 0, rows(alloc, &[(0, 7)])?)?;
     Ok(())
-}
-
-// Closes a hub with this seat.
-fn closed_with(alloc: Global, hub: Hub, seat: Seat) -> Result<Option<Closed>, Fault> {
-    let mut seats = Vec::new(alloc);
-    seats.reserve(1)?;
-    seats.push_reserved(seat);
-    Ok(hub.close(seats).ok())
 }
 
 // Takes one step. Returns `false` if a seat that settles keeps a receipt.
@@ -139,27 +132,55 @@ fn a_seat_of_another_hub_keeps_its_receipts(rt: HostRuntime) -> Result<(), Fail>
     Ok(())
 }
 
-// Returns how many streams and queries the opening of a hub has that forgot three entries, and from
-// which instant its query goes on.
+// Returns whether an opening has one stream, S(a), with two rows.
+fn has_two_rows(opening: &Opening) -> bool {
+    let [stream] = opening.streams() else {
+        return false;
+    };
+    let [column] = stream.columns() else {
+        return false;
+    };
+    stream.name().as_bytes() == b"S".as_slice()
+        && column.as_bytes() == b"a".as_slice()
+        && stream.kept() == 2
+}
+
+// Returns from which instant the one query of an opening goes on, and how many answers wait at it.
+fn place_of_one(opening: &Opening) -> Option<(u64, usize)> {
+    if opening.queries() != 1 {
+        return None;
+    }
+    match (opening.next(0), opening.waiting(0)) {
+        (Some(next), Some(answers)) => Some((next, answers.len())),
+        _ => None,
+    }
+}
+
+// Lets a hub answer three rows and forget. Its query still needs those of the last closed instant.
+// Returns whether its opening has these two, and the place of the query.
 fn opening_of_three<R: Wait>(
     rt: &R,
     alloc: Global,
-) -> Result<Option<(usize, usize, Option<u64>)>, Fault> {
+) -> Result<Option<(bool, Option<(u64, usize)>)>, Fault> {
     let (hub, mut seat) = registered(rt, alloc, "q")?;
-    append(rt, alloc, &hub, &mut seat)?;
+    hub.append(rt, &mut seat, 0, rows(alloc, &[(0, 7), (1, 8), (1, 9)])?)?;
+    hub.heartbeat(rt, &mut seat, 0, 1)?;
+    hub.drain(rt, 256)?;
     hub.forget(rt)?;
     match closed_with(alloc, hub, seat)? {
-        Some(closed) => Ok(Some((
-            closed.opening.streams().len(),
-            closed.opening.queries(),
-            closed.opening.next(0),
-        ))),
+        Some(closed) => {
+            let has_rows = has_two_rows(&closed.opening);
+            Ok(Some((has_rows, place_of_one(&closed.opening))))
+        }
         None => Ok(None),
     }
 }
 
 #[test]
 fn an_opening_has_the_streams_and_queries(rt: HostRuntime) -> Result<(), Fail> {
-    assert_eq!(rt; opening_of_three(&rt, rt.alloc())?, Some((1, 1, Some(0))));
+    assert_eq!(rt;
+        opening_of_three(&rt, rt.alloc())?,
+        Some((true, Some((2, 3))))
+    );
     Ok(())
 }

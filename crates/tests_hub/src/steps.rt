@@ -1,6 +1,6 @@
 //! Tests drains in steps, helpers, and a hub that forgets by itself.
 
-use crate::fixture::{declare, filled, opened_for, ready, register, rows};
+use crate::fixture::{closed_with, declare, filled, opened_for, ready, register, rows};
 use hub::{Hub, Seat};
 use leases::Leased;
 use reference::Fault;
@@ -30,16 +30,25 @@ const STEPS: [(&[u64], &[bool]); 6] = [
     (&[6, 0], &[false, false]),
 ];
 
+// Drains so many turns. The drain wakes whoever may help, or leaves the rest to its caller.
+fn drain_some<R: Wait>(rt: &R, hub: &Hub, turns: u64, wakes: bool) -> Result<bool, Fault> {
+    if wakes {
+        return hub.drain_some(rt, 256, turns);
+    }
+    hub.drain_some_alone(rt, 256, turns)
+}
+
 // Returns whether drains of so many turns answer so, and a look says the same after each.
 fn are_steps_so<R: Wait>(
     rt: &R,
     alloc: Global,
     turns: &[u64],
     answers: &[bool],
+    wakes: bool,
 ) -> Result<bool, Fault> {
     let (hub, _seat) = ready(rt, alloc, 5)?;
     for (count, more) in turns.iter().zip(answers.iter()) {
-        let answer = hub.drain_some(rt, 256, *count)?;
+        let answer = drain_some(rt, &hub, *count, wakes)?;
         if answer != *more || hub.has_ready(rt) != *more {
             return Ok(false);
         }
@@ -50,7 +59,8 @@ fn are_steps_so<R: Wait>(
 #[test]
 fn a_drain_in_steps_says_whether_more_is_ready(rt: HostRuntime) -> Result<(), Fail> {
     for (turns, answers) in &STEPS {
-        assert!(rt; are_steps_so(&rt, rt.alloc(), turns, answers)?);
+        assert!(rt; are_steps_so(&rt, rt.alloc(), turns, answers, true)?);
+        assert!(rt; are_steps_so(&rt, rt.alloc(), turns, answers, false)?);
     }
     Ok(())
 }
@@ -218,12 +228,23 @@ fn a_helper_waits_while_as_many_turns_are_out_as_may_be(rt: HostRuntime) -> Resu
     Ok(())
 }
 
-// Looks whether a wait is over, and then closes an instant.
+// Leases a turn and gives it up. Returns whether there was one.
+fn gives_a_turn_up<R: Wait>(rt: &R, hub: &Hub) -> bool {
+    match hub.lease(rt, 256) {
+        Ok(Leased::Turn(turn)) => hub.abandon(rt, turn.lease).is_ok(),
+        _ => false,
+    }
+}
+
+// Gives a turn up once another thread waits, which wakes it. Looks whether its wait is over, and
+// then closes an instant.
 fn close_late<R: Wait + Clock>(rt: &R, hub: &Hub, mut seat: Seat, is_back: &AtomicBool) -> bool {
+    thread::sleep(rt, Duration::from_millis(REST));
+    let is_given_up = gives_a_turn_up(rt, hub);
     thread::sleep(rt, Duration::from_millis(REST));
     let was_held = !is_back.load(Ordering::SeqCst);
     let _ = hub.heartbeat(rt, &mut seat, 0, 1);
-    was_held
+    is_given_up && was_held
 }
 
 // Waits for another change than those that were seen, and tells that it is back.
@@ -232,7 +253,7 @@ fn come_back<R: Wait>(rt: &R, hub: &Hub, seen: u64, is_back: &AtomicBool) {
     is_back.store(true, Ordering::SeqCst);
 }
 
-// Returns whether a wait for a change goes on until there is one.
+// Returns whether a wait for a change goes on until there is one. A turn that is given up is none.
 fn waits_for_a_change<R: Threads + Wait + Clock + Sync>(
     rt: &R,
     hub: &Hub,
@@ -270,14 +291,20 @@ const DUE: [(u64, u64, bool); 8] = [
     (28, 1_000_000, true),
 ];
 
-// Appends so many rows, and returns whether the hub then forgets by itself.
-fn forgets_after<R: Wait>(rt: &R, alloc: Global, count: u64, values: u64) -> Result<bool, Fault> {
+// Makes a hub with room for 32 entries, and appends so many rows.
+fn grown<R: Wait>(rt: &R, alloc: Global, count: u64) -> Result<(Hub, Seat), Fault> {
     let (hub, mut seat) = opened_for(alloc, 32)?;
     declare(rt, alloc, &hub, &mut seat)?;
     register(rt, alloc, &hub, &mut seat, "q", None)?;
     for _ in 0..count {
         hub.append(rt, &mut seat, 0, rows(alloc, &[(0, 7)])?)?;
     }
+    Ok((hub, seat))
+}
+
+// Appends so many rows, and returns whether the hub then forgets by itself.
+fn forgets_after<R: Wait>(rt: &R, alloc: Global, count: u64, values: u64) -> Result<bool, Fault> {
+    let (hub, mut seat) = grown(rt, alloc, count)?;
     if !hub.settle(rt, &mut seat) {
         return Err(Fault::BadLimit);
     }
@@ -293,6 +320,36 @@ fn forgets_after<R: Wait>(rt: &R, alloc: Global, count: u64, values: u64) -> Res
 fn a_hub_forgets_by_itself_when_it_is_due(rt: HostRuntime) -> Result<(), Fail> {
     for (count, values, forgets) in &DUE {
         assert_eq!(rt; forgets_after(&rt, rt.alloc(), *count, *values)?, *forgets);
+    }
+    Ok(())
+}
+
+// Appends so many rows, and settles. Returns how many entries the opening then replaces, or `None`
+// if the seat differs or the hub does not close.
+fn replaced_after<R: Wait>(
+    rt: &R,
+    alloc: Global,
+    count: u64,
+    values: u64,
+) -> Result<Option<u64>, Fault> {
+    let (hub, mut seat) = grown(rt, alloc, count)?;
+    if !hub.settle_and_forget(rt, &mut seat, values, true) {
+        return Ok(None);
+    }
+    match closed_with(alloc, hub, seat)? {
+        Some(closed) => Ok(Some(closed.first)),
+        None => Ok(None),
+    }
+}
+
+#[test]
+fn a_settle_forgets_only_when_it_is_due(rt: HostRuntime) -> Result<(), Fail> {
+    for (count, values, forgets) in &DUE {
+        let replaced = if *forgets { count.saturating_add(2) } else { 0 };
+        assert_eq!(rt;
+            replaced_after(&rt, rt.alloc(), *count, *values)?,
+            Some(replaced)
+        );
     }
     Ok(())
 }

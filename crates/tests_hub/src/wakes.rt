@@ -1,11 +1,12 @@
 //! Tests that a heartbeat wakes a worker that waits. After one that wakes nobody, a settle does,
-//! and so does a status. So a connection that closes instants and does not drain wakes a worker,
-//! and so does one that only asks for the status. A pool that waits for a turn is woken when the
-//! turn's query is dropped, and when the turn is given up or comes back.
+//! and so do a status, a call to wake, a drain that leaves work and a forget. So a connection that
+//! closes instants and does not drain wakes a worker, and so does one that only asks for the
+//! status. A pool that waits for a turn is woken when the turn's query is dropped, and when the
+//! turn is given up or comes back.
 
 use crate::agreement::next_done;
 use crate::fixture::{filled, ready};
-use hub::{Hub, Seat};
+use hub::{Hub, LeaseWait, Seat};
 use reference::Fault;
 use served::Connection;
 use std::alloc::Global;
@@ -25,23 +26,80 @@ const LOOKS: u32 = 10_000;
 /// Counts the milliseconds after which a worker waits, most likely.
 const REST: u64 = 50;
 
-// Closes the instant once the worker waits, by a heartbeat that wakes it or by one before a settle.
-// Returns whether an answer came before the last look. Then calls the end.
-fn close_an_instant<R: Wait + Clock>(rt: &R, hub: &Hub, mut seat: Seat, settles: bool) -> bool {
-    thread::sleep(rt, Duration::from_millis(REST));
-    if settles {
-        let _ = hub.heartbeat_named(rt, &mut seat, "S", 0);
-        let _ = hub.settle(rt, &mut seat);
-    } else {
-        let _ = hub.heartbeat(rt, &mut seat, 0, 0);
+/// Limits the looks where no answer is to come.
+const FEW_LOOKS: u32 = 50;
+
+/// Limits how often a worker is watched that is to sleep on. It may be late to wait, and find the
+/// work by itself.
+const TRIES: u32 = 10;
+
+/// Says how the instant is closed. All but the first start with a heartbeat that wakes nobody.
+#[derive(Clone, Copy)]
+enum Way {
+    /// Wakes by the heartbeat itself.
+    Heartbeat,
+    /// Settles the seat, which wakes one.
+    Settle,
+    /// Calls `wake`.
+    Wake,
+    /// Drains one turn, which leaves work and wakes.
+    Drain,
+    /// Forgets by a settle that is not to wake. The forget wakes.
+    Forget,
+    /// Makes no other call, so nobody is woken.
+    Nothing,
+    /// Settles the seat and wakes nobody.
+    QuietSettle,
+    /// Drains one turn, leaves work to the caller, and wakes nobody.
+    QuietDrain,
+}
+
+// Closes the instant this way.
+fn close<R: Wait>(rt: &R, hub: &Hub, seat: &mut Seat, way: Way) {
+    if let Way::Heartbeat = way {
+        let _ = hub.heartbeat(rt, seat, 0, 0);
+        return;
     }
-    is_answered_at_last(rt, hub)
+    let _ = hub.heartbeat_named(rt, seat, "S", 0);
+    match way {
+        Way::Settle => {
+            let _ = hub.settle(rt, seat);
+        }
+        Way::Wake => hub.wake(rt),
+        Way::Drain => {
+            let _ = hub.drain_some(rt, 256, 1);
+        }
+        Way::Forget => {
+            let _ = hub.settle_and_forget(rt, seat, 1, false);
+        }
+        Way::QuietSettle => {
+            let _ = hub.settle_and_forget(rt, seat, 0, false);
+        }
+        Way::QuietDrain => {
+            let _ = hub.drain_some_alone(rt, 256, 1);
+        }
+        Way::Heartbeat | Way::Nothing => {}
+    }
+}
+
+// Closes the instant this way once the worker waits. Returns whether an answer came before the last
+// look. Then calls the end.
+fn close_an_instant<R: Wait + Clock>(
+    rt: &R,
+    hub: &Hub,
+    mut seat: Seat,
+    way: Way,
+    looks: u32,
+) -> bool {
+    thread::sleep(rt, Duration::from_millis(REST));
+    close(rt, hub, &mut seat, way);
+    is_answered_at_last(rt, hub, looks)
 }
 
 // Returns whether an answer comes before the last look. Then calls the end.
-fn is_answered_at_last<R: Wait + Clock>(rt: &R, hub: &Hub) -> bool {
+fn is_answered_at_last<R: Wait + Clock>(rt: &R, hub: &Hub, looks: u32) -> bool {
     let mut is_answered = false;
-    for _ in 0..LOOKS {
+    for _ in 0..looks {
         if hub.waiting(rt, 0) == Ok(1) {
             is_answered = true;
             break;
@@ -58,27 +116,91 @@ fn is_worker_woken<R: Threads + Wait + Clock + Sync>(
     alloc: Global,
     hub: &Hub,
     seat: Seat,
-    settles: bool,
+    way: Way,
+    looks: u32,
 ) -> bool {
-    let (is_answered, ()) = thread::join(
+    let ended = thread::join(
         rt,
-        move || close_an_instant(rt, hub, seat, settles),
         move || work(rt, alloc, hub, &NoGate, 256),
+        move || close_an_instant(rt, hub, seat, way, looks),
     );
-    is_answered
+    ended.1
+}
+
+// Returns whether a worker that waits answers when the instant is closed this way.
+fn wakes_a_worker<R: Threads + Wait + Clock + Sync>(
+    rt: &R,
+    alloc: Global,
+    way: Way,
+) -> Result<bool, Fault> {
+    let (hub, seat) = filled(rt, alloc, 5)?;
+    Ok(is_worker_woken(rt, alloc, &hub, seat, way, LOOKS))
 }
 
 #[test]
 fn a_heartbeat_wakes_a_worker(rt: HostRuntime) -> Result<(), Fail> {
-    let (hub, seat) = filled(&rt, rt.alloc(), 5)?;
-    assert!(rt; is_worker_woken(&rt, rt.alloc(), &hub, seat, false));
+    assert!(rt; wakes_a_worker(&rt, rt.alloc(), Way::Heartbeat)?);
     Ok(())
 }
 
 #[test]
 fn a_settle_wakes_a_worker(rt: HostRuntime) -> Result<(), Fail> {
-    let (hub, seat) = filled(&rt, rt.alloc(), 5)?;
-    assert!(rt; is_worker_woken(&rt, rt.alloc(), &hub, seat, true));
+    assert!(rt; wakes_a_worker(&rt, rt.alloc(), Way::Settle)?);
+    Ok(())
+}
+
+#[test]
+fn a_call_to_wake_wakes_a_worker(rt: HostRuntime) -> Result<(), Fail> {
+    assert!(rt; wakes_a_worker(&rt, rt.alloc(), Way::Wake)?);
+    Ok(())
+}
+
+#[test]
+fn a_drain_that_leaves_work_wakes_a_worker(rt: HostRuntime) -> Result<(), Fail> {
+    assert!(rt; wakes_a_worker(&rt, rt.alloc(), Way::Drain)?);
+    Ok(())
+}
+
+#[test]
+fn a_settle_that_forgets_wakes_a_worker(rt: HostRuntime) -> Result<(), Fail> {
+    assert!(rt; wakes_a_worker(&rt, rt.alloc(), Way::Forget)?);
+    Ok(())
+}
+
+// Returns whether a worker that waits sleeps on, in one of the tries, when the instant is closed
+// this way.
+fn lets_a_worker_sleep<R: Threads + Wait + Clock + Sync>(
+    rt: &R,
+    alloc: Global,
+    way: Way,
+) -> Result<bool, Fault> {
+    for _ in 0..TRIES {
+        let (hub, seat) = filled(rt, alloc, 5)?;
+        if !is_worker_woken(rt, alloc, &hub, seat, way, FEW_LOOKS) {
+            return Ok(true);
+        }
+    }
+    Ok(false)
+}
+
+#[test]
+fn a_heartbeat_by_name_wakes_nobody(rt: HostRuntime) -> Result<(), Fail> {
+    assert!(rt; lets_a_worker_sleep(&rt, rt.alloc(), Way::Nothing)?);
+    assert!(rt; lets_a_worker_sleep(&rt, rt.alloc(), Way::QuietSettle)?);
+    assert!(rt; lets_a_worker_sleep(&rt, rt.alloc(), Way::QuietDrain)?);
+    Ok(())
+}
+
+// Returns whether a wait for a turn answers that the end was called, although a turn is ready.
+fn is_ended<R: Wait>(rt: &R, alloc: Global) -> Result<bool, Fault> {
+    let (hub, _seat) = ready(rt, alloc, 5)?;
+    hub.end(rt);
+    Ok(matches!(hub.lease_wait(rt, 256)?, LeaseWait::Ended) && hub.has_ready(rt))
+}
+
+#[test]
+fn after_the_end_no_turn_is_waited_for(rt: HostRuntime) -> Result<(), Fail> {
+    assert!(rt; is_ended(&rt, rt.alloc())?);
     Ok(())
 }
 
@@ -102,7 +224,7 @@ fn ask_by_a_connection<R: Threads + Wait + Clock + Sync>(
     let connection = Connection::new(rt, alloc, hub, 256, 0);
     let served = connection.serve(&mut source, &mut sink, &mut seat);
     drop(connection);
-    let is_answered = is_answered_at_last(rt, hub);
+    let is_answered = is_answered_at_last(rt, hub, LOOKS);
     served.is_ok() && is_answered
 }
 

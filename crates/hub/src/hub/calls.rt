@@ -177,8 +177,9 @@ impl Hub {
 
     /// Does what `settle` does, but wakes a thread only if `wakes` says so: if the caller may have
     /// left work for which nobody was woken. Then, if the seat agreed, does what `forget_if_due`
-    /// does, before other calls get the lock. A forget that ran out of memory is tried again when
-    /// it is due again. With `values` 0 nothing is forgotten.
+    /// does, before other calls get the lock. If it forgot and an operator is ready, it wakes all
+    /// threads that wait: one that ran out of memory may go on. A forget that ran out of memory is
+    /// tried again when it is due again. With `values` 0 nothing is forgotten.
     ///
     /// Example: `a_settle_forgets_if_that_is_due` in crates/uses/src/hubs.rt.
     pub fn settle_and_forget<R: Wait>(
@@ -193,7 +194,13 @@ impl Hub {
             × ForgetsAfter settled result values new }
     {
         let mut locked = self.locked.lock(rt);
+        let first = locked.first();
         let agrees = locked.settle_and_forget(seat, values);
+        if locked.first() != first {
+            let is_ready = locked.has_ready();
+            self.release(locked, is_ready);
+            return agrees;
+        }
         let is_wanted = wakes && locked.has_ready();
         self.release_to_one(locked, is_wanted);
         agrees

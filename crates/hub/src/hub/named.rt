@@ -49,7 +49,7 @@ impl Hub {
     /// `UnknownStream` if there is no such stream, else those of `heartbeat`. After any of them
     /// nothing has changed.
     ///
-    /// Example: `a_burst_wakes_workers_once` in crates/uses/src/hubs.rt.
+    /// Example: `a_burst_wakes_a_worker_once` in crates/uses/src/hubs.rt.
     pub fn heartbeat_named<R: Wait>(
         &self,
         rt: &R,

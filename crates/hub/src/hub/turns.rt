@@ -1,5 +1,5 @@
 //! Answers what workers call. They need no seat.
-ghost use Rattle.std.specs.Prelude.{◌≡◌, IfErr, IfOk, MatchOption, Ok, false};
+ghost use Rattle.std.specs.Prelude.{◌≡◌, IfErr, IfOk, MatchOption, Ok, false, ⊤};
 ghost use Rattle.leases.specs.declared.leased.Leased.TheVariants.{Idle};
 ghost use Rattle.hub.specs.Steps.{PlainLocked, Drains, DrainsSome, Ends, Forgets};
 ghost use Rattle.hub.specs.Steps.{ForgetsWhenDue, GivesUp, Hands, HasEnded, IsReady, Lends, Rests};
@@ -96,7 +96,8 @@ impl Hub {
 
     /// Drains some turns in place, under the lock: at most `turns` turns of at most `rows` rows.
     /// Returns whether an operator may still take something. Call it until it answers `false`:
-    /// other calls get the lock in between. With `turns` 0 it only looks.
+    /// other calls get the lock in between. With `turns` 0 it runs none; it counts as a change
+    /// nevertheless, and wakes the threads that wait if an operator is ready.
     ///
     /// # Errors
     /// Those of `drain`. `TooManyLeases` and `OutOfMemory` only if an operator may take something
@@ -119,12 +120,12 @@ impl Hub {
     }
 
     /// Does what `drain_some` does, but wakes nobody if more is ready: the caller goes on. A short
-    /// drain is done before another thread would begin.
+    /// drain is done before another thread would start. If it fails, it wakes all.
     ///
     /// # Errors
     /// Those of `drain_some`.
     ///
-    /// Example: `a_burst_wakes_workers_once` in crates/uses/src/hubs.rt.
+    /// Example: `a_burst_wakes_a_worker_once` in crates/uses/src/hubs.rt.
     pub fn drain_some_alone<R: Wait>(&self, rt: &R, rows: u32, turns: u64) -> Result<bool, Fault>
         ensures some { (old : PlainLocked) × (new : PlainLocked)
             × DrainsSome old rows turns result new }
@@ -173,7 +174,7 @@ impl Hub {
     /// first: the receipts of what is forgotten are compared only by their numbers.
     ///
     /// # Errors
-    /// `OutOfMemory` when out of memory; then nothing has changed.
+    /// `OutOfMemory` when out of memory; then nothing has changed, except when it is due again.
     ///
     /// Example: `a_hub_forgets_by_itself` in crates/uses/src/hubs.rt.
     pub fn forget_if_due<R: Wait>(&self, rt: &R, values: u64) -> Result<bool, Fault>
@@ -214,7 +215,8 @@ impl Hub {
         self.moved.notify_all();
     }
 
-    /// Hands out a turn, or waits until there is one or the end is called.
+    /// Hands out a turn, or waits until there is one or the end is called. After the end it hands
+    /// out none, although one may be ready.
     ///
     /// # Errors
     /// Those of `Engine::lease`, without a wait.
@@ -226,6 +228,11 @@ impl Hub {
             ((old : PlainLocked) × (new : PlainLocked) × HasEnded old new)) }
         ensures err { IfErr result (λ f.
             (old : PlainLocked) × (new : PlainLocked) × Withholds old rows f new) }
+        ensures going { IfOk result (λ l. MatchLeaseWait l
+            (λ t. (old : PlainLocked) × (new : PlainLocked)
+            × (old.has_ended ≡ false) × Lends old rows t new) ⊤) }
+        ensures going_err { IfErr result (λ f. (old : PlainLocked) × (new : PlainLocked)
+            × (old.has_ended ≡ false) × Withholds old rows f new) }
     {
         let mut locked = self.locked.lock(rt);
         for _ in rt.forever() {
@@ -261,8 +268,10 @@ impl Hub {
     }
 
     /// Waits until there were other changes than the first `seen`, or the end was called. It is for
-    /// a thread that could not go on, as when out of memory. It looks each time that it is woken. A
-    /// change after which nothing is ready wakes nobody, so it shows at the next one that does.
+    /// a thread that could not go on, as when out of memory. It looks each time that it is woken.
+    /// Not every change wakes it: `heartbeat_named` and `drain_some_alone` wake nobody, a settle at
+    /// most one thread, and most others nobody if they leave nothing ready. A change that woke
+    /// nobody shows at the next waking.
     ///
     /// Example: `a_worker_waits_for_a_change` in crates/uses/src/hubs.rt.
     pub fn wait_for_change<R: Wait>(&self, rt: &R, seen: u64) {

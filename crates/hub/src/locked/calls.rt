@@ -1,5 +1,5 @@
-//! Answers what clients call. An accepted call is one call on the engine, one entry and one
-//! receipt; a refused one changes nothing.
+//! Answers what clients call. An accepted call changes the engine by one call, and makes one entry
+//! and one receipt; a refused one changes nothing.
 ghost use Rattle.std.specs.Prelude.{◌≡◌, ◌≤◌, IfOk, IfErr, string_bytes};
 ghost use Rattle.std.specs.Arc.{arc_value};
 ghost use Rattle.plan.specs.Chart.{given_by};

@@ -28,7 +28,7 @@ impl Locked {
     /// Forgets if `is_due` says that it is time. Returns whether it forgot.
     ///
     /// # Errors
-    /// `OutOfMemory` when out of memory; then nothing has changed but when it is due again.
+    /// `OutOfMemory` when out of memory; then nothing has changed, except when it is due again.
     #[tactic(auto, unfolding(crate::specs::Steps::engine_at))]
     pub fn forget_if_due(&mut self, values: u64) -> Result<bool, Fault>
         ensures { ForgetsWhenDue self.old values result self.new }

@@ -17,6 +17,13 @@ impl Locked {
         self.seats
     }
 
+    /// Returns how many entries the opening replaces: the number of the first entry after it.
+    pub fn first(&self) -> u64
+        ensures { result ≡ self.now.first }
+    {
+        self.first
+    }
+
     /// Returns how many turns are out. Takes no memory.
     #[tactic(auto, unfolding(crate::specs::Steps::engine_at))]
     pub fn leases_out(&self) -> usize

@@ -80,7 +80,7 @@ impl Locked {
     /// # Errors
     /// Those of `drain`. `TooManyLeases` and `OutOfMemory` only if an operator may take something
     /// and fewer than `turns` turns have run.
-    #[tactic(auto, unfolding(crate::specs::Steps::engine_at))]
+    #[tactic(auto, unfolding(crate::specs::Steps::engine_at), using(crate::proofs::ReadyLemmas::would_idle))]
     pub fn drain_some(&mut self, rows: u32, turns: u64) -> Result<bool, Fault>
         ensures step { self.new ≡ with_engine self.old self.new.engine }
         ensures drains { DrainsSome self.old rows turns result self.new }
@@ -119,10 +119,11 @@ impl Locked {
         self.changes = self.changes.wrapping_add(1);
     }
 
-    /// Returns how many changes there were that may let a thread go on. These are heartbeats,
-    /// dropped queries, finishes, drains (of `drain_some` those that did not fail), forgets,
-    /// settled seats, and the end. Giving up a turn is none: a thread that gave it up when out of
-    /// memory would only run out of memory again.
+    /// Returns how many changes `Hub` noted: steps that may let a thread go on that could not. It
+    /// notes each `finish` and `drain`, each `drain_some` that did not fail, and the end. It notes
+    /// a heartbeat and a drop that were accepted, a settle that agreed, and a forget that was done.
+    /// Giving up a turn is none: a thread that gave it up when out of memory would only run out of
+    /// memory again. The steps of `Locked` note none by themselves, except `settle_and_forget`.
     pub fn changes(&self) -> u64 {
         self.changes
     }

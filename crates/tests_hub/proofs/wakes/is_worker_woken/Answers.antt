@@ -1,8 +1,7 @@
 use denote.Param.Send.{sendable}
 use Rattle.std.proofs.Crossing.{crosses, send}
 use Rattle.hub.proofs.SendLemmas.{hub_sync}
-use Rattle.tests_hub.proofs.SendLemmas.{seat_send}
 use Rattle.tests_hub.proofs.wakes.is_worker_woken.Goals as goal
 
-pub join-is_answered-requires-send-F : goal.join-is_answered-requires-send-F
-join-is_answered-requires-send-F g c κs within = search (sendable, crosses, send, hub_sync, seat_send) depth 20 fits 100000
+pub join-ended-requires-send-F : goal.join-ended-requires-send-F
+join-ended-requires-send-F g c κs within = search (sendable, crosses, send, hub_sync) depth 20 fits 100000

@@ -50,6 +50,7 @@ pub(crate) fn forget<'a>(alloc: Global) -> Arg<'a>
         "forget",
         "V",
         value_parser!(i64).range(0..=1_099_511_627_776),
-        "Forget after so many values of 8 bytes, 0 to 2^40; 0 only if asked",
+        "Forget after so many values of 8 bytes, 0 to 2^40; 0 only if asked;\na call counts 16, \
+        each value of a row 4",
     )
 }

@@ -23,12 +23,13 @@ pub struct RunOptions {
     pub is_plain: bool,
     /// Limits the rows of a drain's turns, 1 to 1,024.
     pub turn: u32,
-    /// Counts the threads that are to run a drain's turns, 1 to 64. If the words do not say, only
-    /// the caller's thread runs them.
+    /// Limits the threads of a drain over a hub, 1 to 64. Where many rows wait, each query is run
+    /// by itself, in one of them. If the words do not say, there is no hub, and only the caller's
+    /// thread runs turns.
     pub workers: Option<u32>,
-    /// Says after how many values in its history the hub of these threads forgets by itself, at
-    /// most 2^40. A value has 8 bytes. At 0, or if the words do not say, it forgets only if a
-    /// request asks.
+    /// Says after how many values in its history the hub forgets by itself, at most 2^40. A value
+    /// has 8 bytes. A row's instant and columns count four each, an entry 16. At 0, or if the words
+    /// do not say, it forgets only if a request asks.
     pub forget: Option<u64>,
 }
 
@@ -69,7 +70,7 @@ pub fn run_options<'a, S: AsStr>(alloc: Global, words: &'a [S]) -> Result<RunOpt
         "workers",
         "N",
         value_parser!(u32).range(1..=64),
-        "Run the turns of a drain in so many threads, 1 to 64",
+        "Run the queries of a drain in at most so many threads, 1 to 64",
     );
     let command = Command::new(alloc, "cqlrun")
         .version(VERSION)

@@ -29,7 +29,8 @@ pub struct ServeOptions {
     /// say, it never is.
     pub idle: Option<u32>,
     /// Says after how many values in its history the server forgets by itself, at most 2^40. A
-    /// value has 8 bytes. At 0 it forgets only if a request asks.
+    /// value has 8 bytes. A row's instant and columns count four each, an entry 16. At 0 it forgets
+    /// only if a request asks.
     pub forget: u64,
 }
 

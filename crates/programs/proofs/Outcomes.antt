@@ -118,18 +118,18 @@ only_seat seats (r ∷ q ∷ qs) seat all split =
 
 -- where no request forgot, the history that was given is whole
 alone_as : (forgot : Bool) (opening : Machine) (first : ℕ) (entries : List Entry) (seat : PlainSeat) → (forgot ≡ false → first ≡ 0)
-    → IsLegal opening entries → OpensAt first opening → IsAudited (seat ∷ []) 1 first entries → IsAlone forgot seat
-alone_as true opening first entries seat none legal opens audited = (opening, first, entries, legal, opens, audited)
-alone_as false opening first entries seat none legal opens audited =
+    → IsLegal opening entries → OpensAt first opening → IsReachedBy first opening → IsAudited (seat ∷ []) 1 first entries → IsAlone forgot seat
+alone_as true opening first entries seat none legal opens reached audited = (opening, first, entries, legal, opens, reached, audited)
+alone_as false opening first entries seat none legal opens reached audited =
     let nought = none refl in
     (entries, subst (λ (m : Machine). IsLegal m entries) (opens.nought nought) legal, subst (λ n. IsAudited (seat ∷ []) 1 n entries) nought audited)
 
 -- put back, and compared with the history
 pub is_alone : (forgot : Bool) (opening : Machine) (first : ℕ) (entries : List Entry) (seats rest : List PlainSeat) (count : ℕ) (seat : PlainSeat) → rest ≡ [] → seats ≡ rest ++ seat ∷ [] → count ≡ 1
-    → (forgot ≡ false → first ≡ 0) → IsLegal opening entries → OpensAt first opening → IsAudited seats count first entries → IsAlone forgot seat
-is_alone forgot opening first entries seats rest count seat empty_rest pushed one none legal opens audited =
+    → (forgot ≡ false → first ≡ 0) → IsLegal opening entries → OpensAt first opening → IsReachedBy first opening → IsAudited seats count first entries → IsAlone forgot seat
+is_alone forgot opening first entries seats rest count seat empty_rest pushed one none legal opens reached audited =
     let all : seats ≡ seat ∷ [] = pushed ∙ ap (λ (r : List PlainSeat). r ++ seat ∷ []) empty_rest in
-    alone_as forgot opening first entries seat none legal opens (subst (λ (l : List PlainSeat). IsAudited l 1 first entries) all (subst (λ n. IsAudited seats n first entries) one audited))
+    alone_as forgot opening first entries seat none legal opens reached (subst (λ (l : List PlainSeat). IsAudited l 1 first entries) all (subst (λ n. IsAudited seats n first entries) one audited))
 
 some_same : (x y : ℕ) → Some x ≡ Some y → x ≡ y
 some_same x y e = cc

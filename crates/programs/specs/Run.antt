@@ -22,9 +22,9 @@ use Rattle.served.specs.Errors.{IsTold, accept_line, audit_line, bind_line, clos
 use Rattle.served.specs.Errors.{memory_line, thread_line}
 use Rattle.served.specs.Serving as of_seat
 
--- At the status 0 the sink took the script's text of what the source gave, and else a beginning of
--- it; a reply that says want of numbers for turns rests on `wanted`. The most rows of a turn, which
--- the words may say, stand nowhere in it: they change no reply.
+-- At the status 0 the sink took the script's text of what the source gave, and else a prefix of it.
+-- A reply may say that the numbers for turns ran out only if `wanted` holds. The most rows of a
+-- turn, which the words may say, are not in it: they change no reply.
 abbrev pub Answers : Type 0 → World → ℕ → Option (List ℕ) → Option (List ℕ)
     → Option (List ℕ) → Type 0
 Answers wanted world status source old new =
@@ -48,17 +48,17 @@ Leads wanted first now status source old new =
     × Scripts (λ text written. Stands wanted first (requests_of text) written now) source old new
 
 -- All receipts of the only seat are the entries of a legal history,
--- each once and in order, from a machine that was told nothing.
+-- each once and in order, from the empty machine.
 abbrev pub IsWhole : PlainSeat → Type 0
 IsWhole seat = (entries : List Entry) × IsLegal empty entries × IsAudited (seat ∷ []) 1 0 entries
 
--- Those from an opening on are the entries of a legal history, each once and in order; of those
--- that the opening stands for the numbers are there. Where it stands for none it is of a machine
--- that was told nothing.
+-- Those from an opening on are the entries of a legal history, each once and in order. Of those
+-- that the opening replaces, the numbers are there. As many accepted commands led to it, from
+-- nothing. If it replaces none, it is the empty machine.
 abbrev pub IsSince : PlainSeat → Type 0
 IsSince seat =
     (opening : Machine) × (first : ℕ) × (entries : List Entry) × IsLegal opening entries
-    × OpensAt first opening × IsAudited (seat ∷ []) 1 first entries
+    × OpensAt first opening × IsReachedBy first opening × IsAudited (seat ∷ []) 1 first entries
 
 -- What the receipts of the only seat are, by whether a request to forget was answered `done`.
 abbrev pub IsAlone : Bool → PlainSeat → Type 0
@@ -66,9 +66,9 @@ IsAlone false seat = IsWhole seat
 IsAlone true seat = IsSince seat
 
 -- At the status 0 the sink took what the only seat of a hub is answered by steps of it, one line a
--- request, and where none of them forgot, all its receipts are then a legal history, and else those
--- from an opening on; at another status it took a beginning of such answers. `drains` says what a
--- drain may be answered.
+-- request. If none of them forgot, all its receipts are then a legal history, and else those from
+-- an opening on. At another status it took a prefix of such answers. `drains` says what a drain may
+-- be answered.
 abbrev pub Shares : (Answer → Type 0) → ℕ → Option (List ℕ) → Option (List ℕ)
     → Option (List ℕ) → Type 0
 Shares drains status source old new =
@@ -79,7 +79,8 @@ Shares drains status source old new =
     × of_seat.Stands drains (opened 0) (requests_of text) written seat) source old new
 
 -- Every accepted call of the only seat was compared with the history once, by value: when it
--- settled, or at the end. The history is legal from an opening that accepted commands led to.
+-- settled, or at the end. The seat let go of the receipts that it settled. The history is legal
+-- from an opening, which as many accepted commands led to as it replaces.
 abbrev pub IsKept : PlainSeat → Type 0
 IsKept seat =
     (opening : Machine) × (first : ℕ) × (entries : List Entry) × (l : PlainLedger)
@@ -120,7 +121,7 @@ fault_line Read = codes "cqlrun: read failed\n"
 fault_line Write = codes "cqlrun: write failed\n"
 fault_line Memory = codes "cqlrun: out of memory\n"
 
--- what is said where the history and the seat differ at the end
+-- what is said if the history and the seat differ at the end
 abbrev pub differs_line : List ℕ
 differs_line = codes "cqlrun: close failed\n"
 
@@ -136,19 +137,19 @@ no_server_text_line = codes "cqld: a word is not UTF-8\n"
 abbrev pub ToldSome : {E : Type 0} → (E → Option (List ℕ)) → (E → ℕ) → E → E → Type 0
 ToldSome taken failures old new = (text : List ℕ) × (text ≢ []) × IsTold taken failures old new text
 
--- Either the source failed or the sink, the other one did not, and which one is told.
+-- Either the source failed or the sink, the other one did not, and the line says which.
 abbrev pub Failed : {I O : Type 0} → (I → ℕ) → I → I → (O → ℕ) → O → O → (List ℕ → Type 0) → Type 0
 Failed reads source source' writes sink sink' told =
     (Rises (reads source) (reads source') × (writes sink' ≡ writes sink) × told (fault_line Read))
     ⊎ (Rises (writes sink) (writes sink') × (reads source' ≡ reads source)
     × told (fault_line Write))
 
--- No device failed, and it is told that the history and the seat differ.
+-- No device failed, and the line says that the history and the seat differ.
 abbrev pub Differs : {I O : Type 0} → (I → ℕ) → I → I → (O → ℕ) → O → O → (List ℕ → Type 0) → Type 0
 Differs reads source source' writes sink sink' told =
     (reads source' ≡ reads source) × (writes sink' ≡ writes sink) × told differs_line
 
--- what is told where a server ends with the status 1
+-- what is said if a server ends with the status 1
 abbrev pub IsServerFailure : (List ℕ → Type 0) → Type 0
 IsServerFailure told = told bind_line ⊎ (told accept_line ⊎ told audit_line ⊎ told close_line)
 

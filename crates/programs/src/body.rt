@@ -171,7 +171,8 @@ fn refuse_to_forget<E: Sink>(errors: &mut E) -> u8
 ///
 /// It does `run_over` an engine without streams or queries, by turns of at most as many rows as the
 /// words say. The engine is the plain one if the words ask for it. If they ask for workers, a hub
-/// with one seat answers, and at most that many threads run a drain.
+/// with one seat answers. Where many rows wait, a drain runs each query by itself, in at most that
+/// many threads. It leaves to a pool only what is out with others.
 ///
 /// The status is that of `run_over`. It is 0, 1 or 3 after help, which goes to the sink. It is 2
 /// for a wrong command line, and then `errors` get some text. If the words ask for no run, nothing
@@ -182,10 +183,11 @@ fn refuse_to_forget<E: Sink>(errors: &mut E) -> u8
 /// its caller can see the engine.
 ///
 /// With workers, the text is that of the steps of a hub's seat. Each reply is that of one step;
-/// what lies between two steps is not said. At the status 0, the seat's receipts are the entries of
-/// a legal history. They are all of them, unless a request to forget was answered `ok`. Then they
-/// are those from an opening on, and only the numbers of the others. If they differ, the status is
-/// 1.
+/// what lies between two steps is not said. At the status 0, all the seat's receipts are the
+/// entries of a legal history, unless a request to forget was answered `ok`. Then those from an
+/// opening on are, and of the others only the numbers are there. With `--forget` the seat also let
+/// receipts go without a request. Each of them was compared with the history once, by value
+/// (`IsKept`). If they differ, the status is 1.
 pub fn run<'a, R: Threads + Wait + Sync, S: AsStr, I: Source, O: Sink, E: Sink>(
     rt: &R,
     alloc: Global,

@@ -14,8 +14,8 @@ use std::sync::Wait;
 use std::thread::Threads;
 use wire::{ScriptFault, Sink, Source};
 
-/// Runs by `workers` threads: as `run_shared` does, or as `run_forgetting` does if a
-/// number of values is given.
+/// Runs by `workers` threads: as `run_shared` does, or as `run_forgetting` does if a number of
+/// values is given.
 pub(crate) fn run_workers<R: Threads + Wait + Sync, I: Source, O: Sink, E: Sink>(
     rt: &R,
     alloc: Global,
@@ -50,9 +50,9 @@ pub(crate) fn run_workers<R: Threads + Wait + Sync, I: Source, O: Sink, E: Sink>
 }
 
 /// Answers the lines of the source over a hub without streams or queries. A drain runs turns of at
-/// most `turn` rows in place, in at most `workers` threads. At the end the hub is closed, which
-/// compares the seat's receipts with the history. It compares all of them, unless a request to
-/// forget was answered `ok`.
+/// most `turn` rows in place, in at most `workers` threads. It leaves to a pool only what is out
+/// with others. At the end the hub is closed, which compares the seat's receipts with the history.
+/// It compares all of them, unless a request to forget was answered `ok`.
 pub(crate) fn run_shared<R: Threads + Wait + Sync, I: Source, O: Sink, E: Sink>(
     rt: &R,
     alloc: Global,

@@ -5,10 +5,10 @@ use Rattle.std.proofs.lemmas.Bool.{cases_lt}
 use Rattle.histories.specs.Histories.{Told}
 use Rattle.hub.specs.Seats.{PlainSeat}
 use Rattle.hub.specs.Steps as hub
-use Rattle.hub.specs.Steps.{PlainLocked, FindsQuery, FindsStream, Hands, Spurned, SpurnedNamed, Took, TookNamed}
+use Rattle.hub.specs.Steps.{PlainLocked, FindsQuery, Hands, Spurned, SpurnedNamed, Took, TookNamed}
 use Rattle.leases.specs.declared.leased.Leased.{Leased}
 use Rattle.leases.specs.declared.leased.Leased.TheVariants.{Idle}
-use Rattle.reference.specs.Commands.{Command}
+use Rattle.reference.specs.Commands.{Command, Drop}
 use Rattle.reference.specs.Machine.{Machine, query_named, stream_named}
 use Rattle.reference.specs.Replies.{Reply}
 use Rattle.reference.specs.declared.fault.Fault.{Fault}
@@ -25,7 +25,7 @@ use Rattle.wire.specs.declared.request.WireFault.TheVariants.{NotJson, BadReques
 use Rattle.wire.specs.declared.request.WireFault.TheVariants as in_line
 use Rattle.workers.specs.Lacks.{WasFull}
 use Rattle.workers.specs.declared.pool.TheConstants.{MAX_WORKERS}
-use Rattle.served.specs.Serving.{Carries, CarriesNamed, Forgets, IsPool, Keeps, MaySettle, PoolDrains, Replies, Runs, RunsSettling, Serves, SettlesAround, WasAtRest, WasIdle, asks_forget, forgets, is_done, shown}
+use Rattle.served.specs.Serving.{Carries, CarriesNamed, DropsNamed, Forgets, IsPool, Keeps, MaySettle, PoolDrains, Replies, Runs, RunsSettling, Serves, SettlesAround, WasAtRest, WasIdle, asks_forget, forgets, is_done, shown}
 
 -- a command whose acceptance is answered `done`
 pub carried : {A : Type 0} (told : A → Told) (reply : A → Reply) (seat seat' : PlainSeat) (command : Command) (r : Result A Fault) (answer : Answer)
@@ -35,42 +35,25 @@ pub carried : {A : Type 0} (told : A → Told) (reply : A → Reply) (seat seat'
 carried told reply seat seat' command (Ok x) answer plain ok err is = inl (told x, is ∙ sym (plain x) ∙ ap shown (sym ok.0), ok.1)
 carried told reply seat seat' command (Err f) answer plain ok err is = inr (f, is, err)
 
--- the same where a look-up found the number
-pub carried_named : {A : Type 0} (Finds : PlainLocked → List ℕ → Option ℕ → Type 0) (name : List ℕ) (fault : Fault) (command : ℕ → Command) (n : ℕ)
-    (told : A → Told) (reply : A → Reply) (seat seat' : PlainSeat) (r : Result A Fault) (answer : Answer)
-    → ((l : PlainLocked) × Finds l name (Some n)) → ((x : A) → shown (reply x) ≡ done)
-    → IfOk r (λ x. ((told x).entry.reply ≡ reply x) × Took seat (command n) (told x) seat') → IfErr r (λ f. Spurned seat (command n) f seat')
-    → answer ≡ done_of r → CarriesNamed Finds name fault command seat answer seat'
-carried_named Finds name fault command n told reply seat seat' r answer found plain ok err is =
-    inl (n, found, carried told reply seat seat' (command n) r answer plain ok err is)
+-- the same of a drop, after a look-up found the number
+pub dropped : {A : Type 0} (name : List ℕ) (n : ℕ) (told : A → Told) (reply : A → Reply) (seat seat' : PlainSeat) (r : Result A Fault) (answer : Answer)
+    → ((l : PlainLocked) × FindsQuery l name (Some n)) → ((x : A) → shown (reply x) ≡ done)
+    → IfOk r (λ x. ((told x).entry.reply ≡ reply x) × Took seat (Drop n) (told x) seat') → IfErr r (λ f. Spurned seat (Drop n) f seat')
+    → answer ≡ done_of r → DropsNamed name seat answer seat'
+dropped name n told reply seat seat' r answer found plain ok err is =
+    inl (n, found, carried told reply seat seat' (Drop n) r answer plain ok err is)
 
--- the same where the call itself looked the number up
-abbrev Lookup : Type 0
-Lookup = Machine → List ℕ → Option ℕ
+-- the same of a command whose call looked the number up
+module _ (number_of : Machine → List ℕ → Option ℕ) (name : List ℕ) (unknown : Fault) (command : ℕ → Command) (seat seat' : PlainSeat) where
+  pub accepted_by_name : (told : Told) (answer : Answer) → answer ≡ shown told.entry.reply → TookNamed number_of name command seat told seat' → CarriesNamed number_of name unknown command seat answer seat'
+  accepted_by_name told answer is h = inl (told, is, h)
 
-abbrev FindsBy : Lookup → (PlainLocked → List ℕ → Option ℕ → Type 0) → List ℕ → Type 0
-FindsBy number_of Finds name = (l : PlainLocked) (o : Option ℕ) → hub.IsReplayed l → o ≡ number_of (hub.engine_at l).machine name → Finds l name o
-
-pub finds_stream : (name : List ℕ) → FindsBy stream_named FindsStream name
-finds_stream name l o legal is = record { legal = legal; is = is }
-
-pub finds_query : (name : List ℕ) → FindsBy query_named FindsQuery name
-finds_query name l o legal is = record { legal = legal; is = is }
-
-module _ (number_of : Lookup) (Finds : PlainLocked → List ℕ → Option ℕ → Type 0) (name : List ℕ) (finds : FindsBy number_of Finds name) (unknown : Fault) (command : ℕ → Command) (seat seat' : PlainSeat) where
-  pub accepted_by_name : (told : Told) (answer : Answer) → answer ≡ shown told.entry.reply → TookNamed number_of name command seat told seat' → CarriesNamed Finds name unknown command seat answer seat'
-  accepted_by_name told answer is h = inl (h.2.0, (h.0, finds h.0 (Some h.2.0) h.2.2.legal (sym h.2.1)), inl (told, is, (h.0, h.1, h.2.2)))
-
-  refused_in : (old new : PlainLocked) (f : Fault) (answer : Answer) → answer ≡ refused f → hub.DeclinedNamed number_of name unknown command old seat f new seat' → CarriesNamed Finds name unknown command seat answer seat'
-  refused_in old new f answer is (inl d) = inl (d.0, (old, finds old (Some d.0) d.2.legal (sym d.1)), inr (f, is, (old, new, d.2)))
-  refused_in old new f answer is (inr d) = inr ((old, finds old None d.0 (sym d.1)), is ∙ ap refused d.2, d.4)
-
-  pub refused_by_name : (f : Fault) (answer : Answer) → answer ≡ refused f → SpurnedNamed number_of name unknown command seat f seat' → CarriesNamed Finds name unknown command seat answer seat'
-  refused_by_name f answer is h = refused_in h.0 h.1 f answer is h.2
+  pub refused_by_name : (f : Fault) (answer : Answer) → answer ≡ refused f → SpurnedNamed number_of name unknown command seat f seat' → CarriesNamed number_of name unknown command seat answer seat'
+  refused_by_name f answer is h = inr (f, is, h)
 
   pub carried_by_name : {A : Type 0} (told : A → Told) (reply : A → Reply) (r : Result A Fault) (answer : Answer) → ((x : A) → shown (reply x) ≡ done)
       → IfOk r (λ x. ((told x).entry.reply ≡ reply x) × TookNamed number_of name command seat (told x) seat') → IfErr r (λ f. SpurnedNamed number_of name unknown command seat f seat')
-      → answer ≡ done_of r → CarriesNamed Finds name unknown command seat answer seat'
+      → answer ≡ done_of r → CarriesNamed number_of name unknown command seat answer seat'
   carried_by_name told reply (Ok x) answer plain ok err is = accepted_by_name (told x) answer (is ∙ sym (plain x) ∙ ap shown (sym ok.0)) ok.1
   carried_by_name told reply (Err f) answer plain ok err is = refused_by_name f answer is err
 
@@ -152,20 +135,30 @@ keeps_carried : (seat : PlainSeat) (command : Command) (answer : Answer) (seat' 
 keeps_carried seat command answer seat' (inl a) = (a.0 ∷ [], a.2.2.told)
 keeps_carried seat command answer seat' (inr r) = keeps_same seat seat' r.2.2.kept
 
-keeps_named : (Finds : PlainLocked → List ℕ → Option ℕ → Type 0) (name : List ℕ) (fault : Fault) (command : ℕ → Command) (seat : PlainSeat) (answer : Answer) (seat' : PlainSeat)
-    → CarriesNamed Finds name fault command seat answer seat' → Keeps seat seat'
-keeps_named Finds name fault command seat answer seat' (inl c) = keeps_carried seat (command c.0) answer seat' c.2
-keeps_named Finds name fault command seat answer seat' (inr u) = keeps_same seat seat' u.2
+kept_by_name : (number_of : Machine → List ℕ → Option ℕ) (name : List ℕ) (unknown : Fault) (command : ℕ → Command) (old : PlainLocked) (seat : PlainSeat) (f : Fault) (new : PlainLocked) (seat' : PlainSeat)
+    → hub.DeclinedNamed number_of name unknown command old seat f new seat' → seat' ≡ seat
+kept_by_name number_of name unknown command old seat f new seat' (inl d) = d.2.kept
+kept_by_name number_of name unknown command old seat f new seat' (inr d) = d.4
+
+keeps_named : (number_of : Machine → List ℕ → Option ℕ) (name : List ℕ) (unknown : Fault) (command : ℕ → Command) (seat : PlainSeat) (answer : Answer) (seat' : PlainSeat)
+    → CarriesNamed number_of name unknown command seat answer seat' → Keeps seat seat'
+keeps_named number_of name unknown command seat answer seat' (inl a) = (a.0 ∷ [], a.2.2.2.told)
+keeps_named number_of name unknown command seat answer seat' (inr r) =
+    keeps_same seat seat' (kept_by_name number_of name unknown command r.2.0 seat r.0 r.2.1 seat' r.2.2)
+
+keeps_dropped : (name : List ℕ) (seat : PlainSeat) (answer : Answer) (seat' : PlainSeat) → DropsNamed name seat answer seat' → Keeps seat seat'
+keeps_dropped name seat answer seat' (inl c) = keeps_carried seat (Drop c.0) answer seat' c.2
+keeps_dropped name seat answer seat' (inr u) = keeps_same seat seat' u.2
 
 keeps_served : (R : Answer → Type 0) (seat : PlainSeat) (call : Call) (answer : Answer) (seat' : PlainSeat) → Serves R seat call answer seat' → Keeps seat seat'
 keeps_served R seat (declare name columns start) answer seat' s = keeps_carried seat _ answer seat' s
 keeps_served R seat (register name text chart) answer seat' s = keeps_carried seat _ answer seat' s
-keeps_served R seat (append stream more) answer seat' s = keeps_named FindsStream stream _ _ seat answer seat' s
-keeps_served R seat (heartbeat stream at) answer seat' s = keeps_named FindsStream stream _ _ seat answer seat' s
+keeps_served R seat (append stream more) answer seat' s = keeps_named stream_named stream _ _ seat answer seat' s
+keeps_served R seat (heartbeat stream at) answer seat' s = keeps_named stream_named stream _ _ seat answer seat' s
 keeps_served R seat drain answer seat' s = keeps_same seat seat' s.1
-keeps_served R seat (take_rows query limit) answer seat' s = keeps_named FindsQuery query _ _ seat answer seat' s
+keeps_served R seat (take_rows query limit) answer seat' s = keeps_named query_named query _ _ seat answer seat' s
 keeps_served R seat forget answer seat' s = keeps_same seat seat' s.1
-keeps_served R seat (drop_query query) answer seat' s = keeps_named FindsQuery query _ _ seat answer seat' s
+keeps_served R seat (drop_query query) answer seat' s = keeps_dropped query seat answer seat' s
 keeps_served R seat (show_plan query) answer seat' s = keeps_same seat seat' s.1
 keeps_served R seat (peek_rows query limit) answer seat' s = keeps_same seat seat' s.1
 keeps_served R seat show_status answer seat' s = keeps_same seat seat' s.1

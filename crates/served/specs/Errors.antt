@@ -5,7 +5,7 @@ use Rattle.std.specs.Io.KnownBytes.{Appends}
 use Rattle.wire.specs.Devices.{AppendsFront, Rises}
 
 -- A sink was given this text: it took all of it and did not fail, or it failed and took a front
--- of it. `taken` says what a sink tells that it took, and `failures` how often it failed.
+-- of it. `taken` says what a sink shows that it took, and `failures` how often it failed.
 abbrev pub IsTold : {E : Type 0} → (E → Option (List ℕ)) → (E → ℕ) → E → E → List ℕ → Type 0
 IsTold taken failures old new text =
     (Appends (taken old) (taken new) text × (failures new ≡ failures old))
@@ -15,7 +15,7 @@ IsTold taken failures old new text =
 abbrev pub listening_line : ℕ → List ℕ
 listening_line port = codes "cqld: listening on 127.0.0.1:" ++ decimal port ++ codes "\n"
 
--- a sink was told where a server listens, or nothing
+-- a sink was given where a server listens, or nothing
 abbrev pub IsToldAddress : {E : Type 0} → (E → Option (List ℕ)) → (E → ℕ) → E → E → Type 0
 IsToldAddress taken failures old new =
     (new ≡ old) ⊎ ((port : ℕ) × (port ≤ 65535)

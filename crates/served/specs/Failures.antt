@@ -16,7 +16,7 @@ status_of Accept = 1
 status_of Audit = 1
 status_of Thread = 3
 
--- a sink was told the first failure, or nothing where nothing failed
+-- a sink was given the line of the first failure, or nothing if nothing failed
 abbrev pub IsToldFirst : {E : Type 0} → (E → Option (List ℕ)) → (E → ℕ) → E → E
     → Option Failure → Type 0
 IsToldFirst taken failures old new None = new ≡ old

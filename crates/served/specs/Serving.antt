@@ -5,11 +5,12 @@ use Rattle.envelope.specs.Fraction.{Fraction}
 use Rattle.histories.specs.Histories.{Told}
 use Rattle.hub.specs.Seats.{PlainSeat}
 use Rattle.hub.specs.Steps as hub
-use Rattle.hub.specs.Steps.{PlainLocked, FindsQuery, FindsStream, Hands, Rests, SeesSlopes, Spurned}
-use Rattle.hub.specs.Steps.{SeesPeek, SeesStatus, Took}
+use Rattle.hub.specs.Steps.{PlainLocked, FindsQuery, Hands, Rests, SeesPeek, SeesSlopes, SeesStatus}
+use Rattle.hub.specs.Steps.{Spurned, SpurnedNamed, Took, TookNamed}
 use Rattle.leases.specs.declared.leased.Leased.TheVariants.{Idle}
 use Rattle.plan.specs.declared.node.Kind.{Kind}
 use Rattle.reference.specs.Commands.{Command, Declare, Register, Append, Heartbeat, Take, Drop}
+use Rattle.reference.specs.Machine.{Machine, query_named, stream_named}
 use Rattle.reference.specs.Replies as replies
 use Rattle.reference.specs.Replies.{Reply}
 use Rattle.reference.specs.StatusViews.{status_in}
@@ -60,13 +61,25 @@ abbrev pub Carries : PlainSeat → Command → Answer → PlainSeat → Type 0
 Carries seat command answer seat' =
     IsAccepted seat command answer seat' ⊎ IsRefused seat command answer seat'
 
--- the same of a stream or a query by its name, whose
--- number is looked up first, in a step of its own
-abbrev pub CarriesNamed : (PlainLocked → List ℕ → Option ℕ → Type 0) → List ℕ → Fault
-    → (ℕ → Command) → PlainSeat → Answer → PlainSeat → Type 0
-CarriesNamed Finds name fault command seat answer seat' =
-    ((n : ℕ) × ((l : PlainLocked) × Finds l name (Some n)) × Carries seat (command n) answer seat')
-    ⊎ (((l : PlainLocked) × Finds l name None) × (answer ≡ refused fault) × (seat' ≡ seat))
+-- the same of a command that names a stream or a query: one step of the hub looks the
+-- number up and carries the command out, or refuses it. `unknown` is the fault if nothing
+-- has this name in that step
+abbrev pub CarriesNamed : (Machine → List ℕ → Option ℕ) → List ℕ → Fault → (ℕ → Command)
+    → PlainSeat → Answer → PlainSeat → Type 0
+CarriesNamed number_of name unknown command seat answer seat' =
+    ((told : Told) × (answer ≡ shown told.entry.reply)
+    × TookNamed number_of name command seat told seat')
+    ⊎ ((fault : Fault) × (answer ≡ refused fault)
+    × SpurnedNamed number_of name unknown command seat fault seat')
+
+-- the same of a drop. Its number is looked up before, in a step of its own: another seat may
+-- drop that query in between, and then the drop is refused
+abbrev pub DropsNamed : List ℕ → PlainSeat → Answer → PlainSeat → Type 0
+DropsNamed name seat answer seat' =
+    ((n : ℕ) × ((l : PlainLocked) × FindsQuery l name (Some n))
+    × Carries seat (Drop n) answer seat')
+    ⊎ (((l : PlainLocked) × FindsQuery l name None) × (answer ≡ refused UnknownQuery)
+    × (seat' ≡ seat))
 
 -- what a look at the slopes of a query's operators is answered
 abbrev pub Looks : ℕ → Answer → Type 0
@@ -101,7 +114,7 @@ ShowsStatus answer = ⊥
 
 -- ---- forgetting
 
--- THE HUB FORGOT in one step, or memory was refused and nothing was changed
+-- THE HUB FORGOT in one step, or it ran out of memory and nothing was changed
 abbrev pub Forgets : Answer → Type 0
 Forgets done = (old : PlainLocked) × (new : PlainLocked) × hub.Forgets old (Ok tt) new
 Forgets (refused fault) = (old : PlainLocked) × (new : PlainLocked)
@@ -122,9 +135,9 @@ WasAtRest most = (old : PlainLocked) × (new : PlainLocked) × Rests old most ne
 abbrev pub IsPool : ℕ → Type 0
 IsPool workers = (1 ≤ workers) × (workers ≤ MAX_WORKERS)
 
--- THE DRAIN OF A POOL was answered so: `done` behind a moment of rest, `BadLimit` just where these
--- are no pool's workers, want of turns behind a moment when none went out to an operator that was
--- ready, or else want of memory
+-- THE DRAIN OF A POOL was answered so. `done`: at some moment nothing was ready and no turn was
+-- out. `BadLimit`: exactly if these are no pool's workers. `TooManyLeases`: at some moment an
+-- operator was ready, and no turn went out. `OutOfMemory`: nothing says when
 abbrev pub PoolDrains : ℕ → ℕ → Answer → Type 0
 PoolDrains workers most done = IsPool workers × WasAtRest most
 PoolDrains workers most (refused BadLimit) = ¬ IsPool workers
@@ -132,8 +145,9 @@ PoolDrains workers most (refused OutOfMemory) = IsPool workers
 PoolDrains workers most (refused TooManyLeases) = IsPool workers × WasFull most
 PoolDrains workers most answer = ⊥
 
--- THE DRAIN OF A CLIENT'S OWN THREAD was answered so: `done` behind an
--- idle moment, want of turns behind such a moment, or else want of memory
+-- THE DRAIN OF A CLIENT'S OWN THREAD was answered so. `done`: at some moment nothing was ready.
+-- `TooManyLeases`: at some moment an operator was ready, and no turn went out. `OutOfMemory`:
+-- nothing says when
 abbrev pub ClientDrains : ℕ → Answer → Type 0
 ClientDrains most done = WasIdle most
 ClientDrains most (refused OutOfMemory) = ⊤
@@ -150,27 +164,27 @@ Serves drains seat (declare name columns start) answer seat' =
 Serves drains seat (register name text chart) answer seat' =
     Carries seat (Register name text chart) answer seat'
 Serves drains seat (append stream more) answer seat' =
-    CarriesNamed FindsStream stream UnknownStream (λ n. Append n more) seat answer seat'
+    CarriesNamed stream_named stream UnknownStream (λ n. Append n more) seat answer seat'
 Serves drains seat (heartbeat stream at) answer seat' =
-    CarriesNamed FindsStream stream UnknownStream (λ n. Heartbeat n at) seat answer seat'
+    CarriesNamed stream_named stream UnknownStream (λ n. Heartbeat n at) seat answer seat'
 Serves drains seat drain answer seat' = drains answer × (seat' ≡ seat)
 Serves drains seat (take_rows query limit) answer seat' =
-    CarriesNamed FindsQuery query UnknownQuery (λ n. Take n limit) seat answer seat'
+    CarriesNamed query_named query UnknownQuery (λ n. Take n limit) seat answer seat'
 Serves drains seat forget answer seat' = Forgets answer × (seat' ≡ seat)
-Serves drains seat (drop_query query) answer seat' =
-    CarriesNamed FindsQuery query UnknownQuery Drop seat answer seat'
+Serves drains seat (drop_query query) answer seat' = DropsNamed query seat answer seat'
 Serves drains seat (show_plan query) answer seat' = LooksNamed query answer × (seat' ≡ seat)
 Serves drains seat (peek_rows query limit) answer seat' =
     PeeksNamed query limit answer × (seat' ≡ seat)
 Serves drains seat show_status answer seat' = ShowsStatus answer × (seat' ≡ seat)
 
--- what was asked for was answered; a line that is no request is told so, and calls nothing
+-- the request was answered; the answer to a line that is no request is its fault, and it calls
+-- nothing
 abbrev pub IsServed : (Answer → Type 0) → PlainSeat → Result Call WireFault → Answer
     → PlainSeat → Type 0
 IsServed drains seat (Ok call) answer seat' = Serves drains seat call answer seat'
 IsServed drains seat (Err fault) answer seat' = (answer ≡ unread fault) × (seat' ≡ seat)
 
--- or memory was wanted where the line was read, which no line meets that is too long
+-- or memory ran out while the line was read; of a line that is too long it does not
 abbrev pub LacksMemory : PlainSeat → Result Call WireFault → Answer → PlainSeat → Type 0
 LacksMemory seat request answer seat' =
     (request ≢ Err in_line.LineTooLong) × (answer ≡ unread in_line.OutOfMemory) × (seat' ≡ seat)
@@ -200,13 +214,13 @@ forgets request answer = asks_forget request && is_done answer
 -- ---- all requests
 
 -- THE REQUESTS were answered by this text, one line a request, and left this seat;
--- `forgot` is true just where one of them was to forget, and was answered `done`
+-- `forgot` is true exactly if one of them was to forget, and was answered `done`
 abbrev pub Runs : (Answer → Type 0) → PlainSeat → List (Result Call WireFault) → List ℕ → Bool
     → PlainSeat → Type 0
 Runs drains = exchanges.Runs (Replies drains) forgets
 
--- the first of these requests were carried out, and
--- stand: the written text begins what they are answered
+-- the first of these requests were carried out: the
+-- written text is a prefix of what they are answered
 abbrev pub Stands : (Answer → Type 0) → PlainSeat → List (Result Call WireFault) → List ℕ
     → PlainSeat → Type 0
 Stands drains = exchanges.Stands (Replies drains) forgets

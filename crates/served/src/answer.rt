@@ -1,9 +1,10 @@
 //! Answers requests that are calls on the hub.
-ghost use Rattle.hub.specs.Steps.{FindsQuery, FindsStream};
-ghost use Rattle.reference.specs.Commands.{Append, Drop, Heartbeat, Take};
+ghost use Rattle.reference.specs.Commands.{Append, Heartbeat, Take};
+ghost use Rattle.reference.specs.Machine.{query_named, stream_named};
 ghost use Rattle.reference.specs.declared.fault.Fault.TheVariants.{UnknownQuery, UnknownStream};
 ghost use Rattle.wire.specs.Printed.{answer_of};
-ghost use Rattle.served.specs.Serving.{CarriesNamed, LooksNamed, PeeksNamed, ShowsStatus};
+ghost use Rattle.served.specs.Serving.{CarriesNamed, DropsNamed, LooksNamed, PeeksNamed};
+ghost use Rattle.served.specs.Serving.{ShowsStatus};
 
 use hub::{Hub, Seat};
 use reference::{Fault, NewRows};
@@ -17,13 +18,14 @@ pub(crate) fn append<R: Wait>(
     stream: &str,
     rows: NewRows,
 ) -> Reply
-    ensures { CarriesNamed FindsStream stream.now UnknownStream (λ n. Append n rows) seat.old
+    ensures { CarriesNamed stream_named stream.now UnknownStream (λ n. Append n rows) seat.old
         (answer_of result) seat.new }
 {
     done(hub.append_named(rt, seat, stream, rows))
 }
 
-/// Closes instants of a stream. If the seat settles, that wakes the workers; otherwise this does.
+/// Closes instants of a stream. If the seat settles, that wakes a worker; otherwise this wakes them
+/// all, if any work is left.
 pub(crate) fn close_instants<R: Wait>(
     rt: &R,
     hub: &Hub,
@@ -32,27 +34,23 @@ pub(crate) fn close_instants<R: Wait>(
     at: i64,
     settles: bool,
 ) -> Reply
-    ensures { CarriesNamed FindsStream stream.now UnknownStream (λ n. Heartbeat n at) seat.old
+    ensures { CarriesNamed stream_named stream.now UnknownStream (λ n. Heartbeat n at) seat.old
         (answer_of result) seat.new }
 {
-    if settles {
-        return done(hub.heartbeat_named(rt, seat, stream, at));
-    }
-    heartbeat(rt, hub, seat, stream, at)
+    let closed = hub.heartbeat_named(rt, seat, stream, at);
+    wake_unless(rt, hub, settles);
+    done(closed)
 }
 
-fn heartbeat<R: Wait>(rt: &R, hub: &Hub, seat: &mut Seat, stream: &str, at: i64) -> Reply
-    ensures { CarriesNamed FindsStream stream.now UnknownStream (λ n. Heartbeat n at) seat.old
-        (answer_of result) seat.new }
-{
-    match hub.stream_named(rt, stream) {
-        Some(number) => done(hub.heartbeat(rt, seat, number, at)),
-        None => Reply::Refused(Fault::UnknownStream),
+// Wakes the workers, unless the seat settles.
+fn wake_unless<R: Wait>(rt: &R, hub: &Hub, settles: bool) {
+    if !settles {
+        hub.wake(rt);
     }
 }
 
 pub(crate) fn take<R: Wait>(rt: &R, hub: &Hub, seat: &mut Seat, query: &str, limit: i64) -> Reply
-    ensures { CarriesNamed FindsQuery query.now UnknownQuery (λ n. Take n limit) seat.old
+    ensures { CarriesNamed query_named query.now UnknownQuery (λ n. Take n limit) seat.old
         (answer_of result) seat.new }
 {
     match hub.take_named(rt, seat, query, limit) {
@@ -62,8 +60,7 @@ pub(crate) fn take<R: Wait>(rt: &R, hub: &Hub, seat: &mut Seat, query: &str, lim
 }
 
 pub(crate) fn drop_query<R: Wait>(rt: &R, hub: &Hub, seat: &mut Seat, query: &str) -> Reply
-    ensures { CarriesNamed FindsQuery query.now UnknownQuery Drop seat.old (answer_of result)
-        seat.new }
+    ensures { DropsNamed query.now seat.old (answer_of result) seat.new }
 {
     match hub.query_named(rt, query) {
         Some(number) => done(hub.drop_query(rt, seat, number)),

@@ -18,7 +18,7 @@ pub(crate) struct Client<'a, R, D: Drainer> {
     pub(crate) rt: &'a R,
     pub(crate) hub: &'a Hub,
     pub(crate) drainer: D,
-    /// Says that its seat settles before its thread waits, and so wakes the workers.
+    /// Says that its seat settles before its thread waits, and so wakes a worker.
     pub(crate) settles: bool,
     ghost may_start: { ∥ D.may_start drainer ∥₁ },
 }

@@ -17,9 +17,10 @@ const RECEIPTS: usize = 16;
 /// holds `RECEIPTS` receipts. Then the hub forgets by itself if that is due. Once the seat differed
 /// from the history, it does neither: a forget would take what shows it.
 ///
-/// A settle wakes a worker if the client may have left work. It may have: it closed instants or
-/// registered a query, and no drain came to its end since. A look wakes the workers if any work is
-/// left. So whoever asks how far a query is also sees to it that the work goes on.
+/// A settle wakes one worker if the client may have left work. It may have: it closed instants or
+/// registered a query, and no drain came to its end since. A look wakes one worker if any work is
+/// left, or all of them if the seat holds no receipts or differed. So whoever asks how far a query
+/// is also sees to it that the work goes on.
 #[derive(Drop)]
 pub(crate) struct Keeper<'a, 'b, R, D: Drainer> {
     /// Answers the requests.
@@ -75,7 +76,7 @@ fn work_of(read: &Result<Request, WireFault>) -> Work {
 
 impl<R: Wait, D: Drainer> Keeper<'_, '_, R, D> {
     // Settles the seat before a request to forget, so that its receipts are compared by value. Does
-    // so before a look too, so that workers are awake.
+    // so before a look too, so that a worker is awake.
     fn settle_before(&self, seat: &mut Seat, read: &Result<Request, WireFault>)
         ensures { MaySettle seat.old seat.new }
     {
@@ -111,9 +112,9 @@ impl<R: Wait, D: Drainer> Keeper<'_, '_, R, D> {
         }
     }
 
-    // Settles the seat, and wakes a worker if the client may have left work. Then the hub forgets
+    // Settles the seat, and wakes one worker if the client may have left work. Then the hub forgets
     // if that is due. If the receipts differ from the history, it is noted and they stay. From then
-    // on, and without receipts, it only wakes.
+    // on, and without receipts, it only wakes all workers.
     fn settle(&self, seat: &mut Seat)
         ensures { MaySettle seat.old seat.new }
     {

@@ -252,8 +252,9 @@ fn lack_client<R: Wait>(rt: &R, door: &mut Door, alarm: &Alarm) {
 
 // Serves connections until there are no more, and returns the seat. A device that fails, or a
 // connection that cannot be set up, ends only that connection. The seat settles while it is served,
-// and after each connection: its receipts are compared with the history and let go. Those that
-// differ stay for `close`, and ring the alarm. So does a failed accept.
+// and after each connection: its receipts are compared with the history and let go. That also wakes
+// a worker for what a client left that went before its burst was answered. Receipts that differ
+// stay for `close`, and ring the alarm. So does a failed accept.
 fn client<R: Threads + Wait + Sync>(
     rt: &R,
     alloc: Global,

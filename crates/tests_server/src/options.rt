@@ -202,6 +202,16 @@ fn a_silent_connection_is_closed_if_asked(rt: HostRuntime) {
     assert!(rt; matches!(open, Ok(true)));
 }
 
+#[test]
+fn a_silent_connection_stays_open_until_then(rt: HostRuntime) {
+    let options = ServeOptions {
+        idle: Some(60),
+        ..ONE
+    };
+    let open = is_done(&rt, rt.alloc(), &options, Act::PauseForAWhile);
+    assert!(rt; matches!(open, Ok(true)));
+}
+
 // Counts the connections that are answered of 1,001, and then keeps the server from accepting.
 fn answered_of_many<R: Net<Listener = TcpListener, Stream = TcpStream>>(
     rt: &R,

@@ -80,9 +80,8 @@ pub(crate) fn ask(alloc: Global, stream: &TcpStream) -> io::Result<String> {
     Ok(taken)
 }
 
-// Sends the requests, and then only takes, with a millisecond of sleep each time, until three rows
-// were taken. Returns the rows, those of one reply after those of the other. If the requests were
-// not accepted, it returns their replies.
+/// Sends the requests, and then only takes, as `take_all` does. If the requests were not accepted,
+/// it returns their replies.
 pub(crate) fn watch<R: Clock>(rt: &R, alloc: Global, stream: &TcpStream) -> io::Result<String> {
     let mut writer = stream;
     let mut reader = BufReader::new(alloc, stream)?;
@@ -94,6 +93,15 @@ pub(crate) fn watch<R: Clock>(rt: &R, alloc: Global, stream: &TcpStream) -> io::
     if line.as_str() != ACCEPTED {
         return Ok(line);
     }
+    take_all(rt, alloc, stream)
+}
+
+// Takes, with a millisecond of sleep each time, until three rows were taken. Returns the rows,
+// those of one reply after those of the other.
+fn take_all<R: Clock>(rt: &R, alloc: Global, stream: &TcpStream) -> io::Result<String> {
+    let mut writer = stream;
+    let mut reader = BufReader::new(alloc, stream)?;
+    let mut line = String::new(alloc);
     let mut taken = String::new(alloc);
     for _ in 0..10_000 {
         writer.write_all(TAKE.as_bytes())?;
@@ -291,6 +299,65 @@ fn a_client_that_goes_ends_its_connection_alone(rt: HostRuntime) -> Result<(), F
         if told.as_str() == "{\"error\":\"N1 NotJson\"}\n"
             && answered.as_str() == "{\"error\":\"E2 NameTaken\"}\n"
             && ending.is_well())
+    );
+    Ok(())
+}
+
+// Makes a burst that closes instants. Four calls are accepted, and then no request is. So no seat
+// settles before the end of the burst, and the replies are longer than six pages.
+fn closing_burst(alloc: Global) -> Result<String, AllocError> {
+    let mut burst = String::from_str(alloc, BEGINNING)?;
+    for _ in 0..4_000 {
+        burst.push_str("{}\n")?;
+    }
+    Ok(burst)
+}
+
+// Returns the rows of a client that only takes, after another one closed their instants. That one
+// is gone before it is served, so its replies cannot be written. A first client keeps the only
+// place until then.
+fn rows_after_one_that_went<R: Net<Listener = TcpListener, Stream = TcpStream> + Clock>(
+    rt: &R,
+    alloc: Global,
+    address: SocketAddr,
+) -> io::Result<String> {
+    let first = TcpStream::connect(rt, address)?;
+    let mut writer = &first;
+    writer.write_all(DRAIN.as_bytes())?;
+    let mut reader = BufReader::new(alloc, &first)?;
+    let mut line = String::new(alloc);
+    reader.read_line(&mut line)?;
+    let gone = TcpStream::connect(rt, address)?;
+    let mut writer = &gone;
+    writer.write_all(closing_burst(alloc)?.as_bytes())?;
+    drop(gone);
+    drop(reader);
+    drop(first);
+    let last = TcpStream::connect(rt, address)?;
+    take_all(rt, alloc, &last)
+}
+
+fn served_after_one_that_went<
+    R: Net<Listener = TcpListener, Stream = TcpStream> + Threads + Wait + Clock + Sync,
+>(rt: &R, alloc: Global, listener: TcpListener) -> io::Result<(String, Ending)> {
+    let address = listener.local_addr()?;
+    let (taken, ending) = thread::join(
+        rt,
+        || rows_after_one_that_went(rt, alloc, address),
+        || serve_some(rt, alloc, listener, 1, 1, 3),
+    );
+    Ok((taken?, ending))
+}
+
+#[test]
+fn a_client_that_goes_leaves_its_work_to_a_worker(rt: HostRuntime) -> Result<(), Fail> {
+    let listener = TcpListener::bind(&rt, "127.0.0.1:0")
+        .ok()
+        .ok_or("no listener")?;
+    let served = served_after_one_that_went(&rt, rt.alloc(), listener);
+    assert!(rt;
+        matches!(&served, Ok((taken, ending))
+        if taken.as_str() == "[1,5],[3,6],[3,7]" && ending.is_well())
     );
     Ok(())
 }

@@ -2,14 +2,14 @@
 ghost use Rattle.std.specs.Prelude.{◌<◌};
 
 use arrayvec::ArrayVec;
-use reference::{AnswerRows, Fault, QueryFault};
+use reference::{AnswerRows, Fault, Plain, QueryFault};
 use std::alloc::{AllocError, Global};
 use std::sync::Arc;
 use std::test::Fail;
 use values::{Row, Value};
 use wire::{
     DeviceFailed, Lines, MemorySink, MemorySource, ReaderSource, Reply, Request, ScriptFault, Sink,
-    Source, WireFault, next_request, read_request, write_reply,
+    Source, WireFault, next_request, read_request, run_script, write_reply,
 };
 
 // Returns what each line of a source is: the letter of its request, or the digit of its fault.
@@ -322,6 +322,29 @@ fn writes_of(alloc: Global, count: u16) -> Result<Option<u64>, AllocError> {
 fn a_line_of_16384_bytes_is_one_write(rt: HostRuntime) -> Result<(), Fail> {
     assert_eq!(rt; writes_of(rt.alloc(), 900)?, Some(1));
     assert_eq!(rt; writes_of(rt.alloc(), 1_800)?, Some(2));
+    Ok(())
+}
+
+// Returns in how many writes so many drains are answered that are read at once.
+fn writes_of_burst(alloc: Global, count: u32) -> Result<Option<u64>, AllocError> {
+    let mut script = String::new(alloc);
+    for _ in 0..count {
+        script.push_str("{\"op\":\"drain\"}\n")?;
+    }
+    let Ok(mut engine) = Plain::new(alloc) else {
+        return Ok(None);
+    };
+    let mut source = MemorySource::new(script.as_str().as_bytes());
+    let mut sink = sink_of_width(alloc, usize::MAX, u64::MAX);
+    match run_script(alloc, &mut source, &mut sink, &mut engine, 256) {
+        Ok(()) if sink.sink.bytes.len() as u64 == count as u64 * 12 => Ok(Some(sink.writes)),
+        _ => Ok(None),
+    }
+}
+
+#[test]
+fn a_burst_of_ten_lines_is_answered_by_one_write(rt: HostRuntime) -> Result<(), Fail> {
+    assert_eq!(rt; writes_of_burst(rt.alloc(), 10)?, Some(1));
     Ok(())
 }
 

@@ -70,10 +70,19 @@ fn a_request_is_answered<R: Print>(rt: &R, alloc: Global) -> Result<(), Stop> {
     Ok(())
 }
 
-/// Counts requests, and carries none of them out.
+/// Counts requests, and the lines after which the source is read. It carries no request out.
 struct Counter;
 
-impl Responder<u64> for Counter {
+/// Holds what a counter counts.
+#[derive(Drop)]
+struct Counts {
+    /// Counts the lines that are requests.
+    requests: u64,
+    /// Counts the lines after which no further line was read ahead.
+    waits: u64,
+}
+
+impl Responder<Counts> for Counter {
     ghost use Rattle.std.specs.Prelude.{⊤, false};
 
     ghost replies = { λ _ _ _ _ _. ⊤ };
@@ -82,13 +91,16 @@ impl Responder<u64> for Counter {
 
     fn respond(
         &self,
-        count: &mut u64,
+        counts: &mut Counts,
         read: Result<Request, WireFault>,
-        _waits: bool,
+        waits: bool,
     ) -> (Reply, bool) {
+        if waits {
+            counts.waits = counts.waits.saturating_add(1);
+        }
         match read {
             Ok(_) => {
-                *count = count.saturating_add(1);
+                counts.requests = counts.requests.saturating_add(1);
                 (Reply::Done, false)
             }
             Err(fault) => (Reply::Unread(fault), false),
@@ -98,14 +110,19 @@ impl Responder<u64> for Counter {
 
 /// Shows a responder of one's own, which changes a state of its own.
 ///
-/// Two lines are requests. The line between them is not.
+/// Two lines are requests. The line between them is not. All three are read at once, so only the
+/// last one waits: the source is read after it.
 fn a_responder_answers_requests<R: Print>(rt: &R, alloc: Global) -> Result<(), Stop> {
     let lines = "{\"op\":\"drain\"}\nno request\n{\"op\":\"forget\"}\n";
     let mut source = MemorySource::new(lines.as_bytes());
     let mut sink = MemorySink::new(alloc);
-    let mut count = 0;
-    answer_requests(alloc, &mut source, &mut sink, &Counter, &mut count)?;
-    println!(rt; "a_responder_answers_requests: {count} requests")?;
+    let mut counts = Counts {
+        requests: 0,
+        waits: 0,
+    };
+    answer_requests(alloc, &mut source, &mut sink, &Counter, &mut counts)?;
+    let (requests, waits) = (counts.requests, counts.waits);
+    println!(rt; "a_responder_answers_requests: {requests} requests, {waits} wait")?;
     rt.write_all(sink.bytes.as_slice())?;
     Ok(())
 }

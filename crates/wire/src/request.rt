@@ -26,7 +26,7 @@ pub enum Request {
         stream: String,
         at: i64,
     },
-    /// Makes all closed answers wait for a take.
+    /// Runs what is ready, so that closed answers wait for a take.
     Drain,
     /// Takes at most `limit` answers of a query.
     Take {

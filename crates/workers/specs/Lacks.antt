@@ -12,7 +12,7 @@ abbrev pub WasFull : ℕ → Type 0
 WasFull rows = (old : PlainLocked) × (new : PlainLocked) × Withholds old rows TooManyLeases new
 
 -- of turns: there was such a moment, for turns of any
--- size; of memory: no clause says when it is refused
+-- size; of memory: no clause says when it runs out
 abbrev pub Lacks : Lack → Type 0
 Lacks lack.Turns = (rows : ℕ) → 1 ≤ rows → rows ≤ MAX_TURN → WasFull rows
 Lacks lack.Memory = ⊤

@@ -8,12 +8,12 @@ use Rattle.reference.specs.declared.fault.Fault.TheVariants.{OutOfMemory}
 use Rattle.hub.specs.Steps.{PlainLocked, Ends, GivesUp}
 
 -- IT WAS RUN, and came back so: taken in, or refused as one that is not
--- out or as a stranger, or its query broke since memory was refused
+-- out or as a stranger, or its query broke since memory ran out
 abbrev pub WasRun : Turn → Result ⊤ Fault → Type 0
 WasRun turn answer = (done : Parts) × IsOf turn done × IsDone done
     × ((old : PlainLocked) × (new : PlainLocked) × Ends old done answer new)
 
--- IT WAS GIVEN UP, since memory was refused where it ran
+-- IT WAS GIVEN UP, since memory ran out where it ran
 abbrev pub WasGivenUp : Turn → Result ⊤ Fault → Type 0
 WasGivenUp turn answer =
     (answer ≡ Err OutOfMemory) × ((given : Result ⊤ Fault)

@@ -1,6 +1,6 @@
-//! Defines gates, which hear of each turn.
+//! Defines gates, which hear of each turn that is leased.
 
-/// Hears of each turn, outside the lock.
+/// Hears of each turn that is leased, outside the lock. It hears of none that runs in place.
 pub trait Gate {
     /// Hears that the turn with this number went out, and is about to be run.
     fn before(&self, lease: u64);

@@ -14,8 +14,8 @@ use std::alloc::Global;
 use std::sync::Wait;
 use turn::Turn;
 
-/// Runs turns of at most `rows` rows, until it sees that the hub's end was called. A turn that did
-/// not come back is tried again, since its operator is ready again.
+/// Runs turns of at most `rows` rows, until it sees that the hub's end was called. What was given
+/// up is tried again at once. If its query broke or was dropped, it is gone.
 pub fn work<R: Wait, G: Gate>(rt: &R, alloc: Global, hub: &Hub, gate: &G, rows: u32)
     requires { IsTurnSize rows }
     ensures { (old : PlainLocked) × (new : PlainLocked) × HasEnded old new }

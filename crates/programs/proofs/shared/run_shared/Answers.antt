@@ -16,7 +16,7 @@ returns-in-Err-clause-shares g c =
 pub returns-then-is_whole-clause-shares : goal.returns-then-is_whole-clause-shares
 returns-then-is_whole-clause-shares g c =
     let one = only_seat c.in-Ok.seats.items c.pop.new.self.items c.in-Some.seat c.in-Ok.ensures.ok.1 c.in-Some.ensures.items in
-    let alone = is_alone c.in-Ok-ran.forgot _ _ _ c.push_reserved.new.self.items c.pop.new.self.items c.in-Ok.hub c.run_hub-ran.new.seat one.0 c.push_reserved.ensures.items c.in-Ok.ensures.ok.0 (c.is_whole.ensures.whole c.if-is_whole.true) c.in-Ok-close.ensures.legal c.in-Ok-close.ensures.opens (c.in-Ok-close.ensures.unsettled (c.is_whole.ensures.kept c.if-is_whole.true)) in
+    let alone = is_alone c.in-Ok-ran.forgot _ _ _ c.push_reserved.new.self.items c.pop.new.self.items c.in-Ok.hub c.run_hub-ran.new.seat one.0 c.push_reserved.ensures.items c.in-Ok.ensures.ok.0 (c.is_whole.ensures.whole c.if-is_whole.true) c.in-Ok-close.ensures.legal c.in-Ok-close.ensures.opens c.in-Ok-close.ensures.reached (c.in-Ok-close.ensures.unsettled (c.is_whole.ensures.kept c.if-is_whole.true)) in
     shares_all (PoolDrains c.args.workers c.args.turn) 0 (g.I.Source.left c.args.source.now) (g.O.Sink.taken c.args.sink.now) (g.O.Sink.taken c.run_hub-ran.new.sink) c.in-Some.seat c.run_hub-ran.new.seat
     c.in-Ok-ran.forgot one.1 alone c.in-Ok-ran.ensures.text
 

@@ -1,6 +1,6 @@
 use Rattle.std.proofs.Common.{◌∙◌, ap, refl, subst, w64, ℕ}
 use Rattle.std.proofs.lemmas.Int.{to_z-of_z}
-use Rattle.hub.specs.Steps.{FindsQuery, FindsStream}
+use Rattle.reference.specs.Machine.{query_named, stream_named}
 use Rattle.reference.specs.declared.fault.Fault.TheVariants.{UnknownQuery, UnknownStream}
 use Rattle.std.specs.Prelude.{string_bytes}
 use Rattle.plan.specs.Chart.{given_by}
@@ -35,14 +35,14 @@ pub returns-in-Heartbeat : goal.returns-in-Heartbeat
 returns-in-Heartbeat g c =
     let same = to_z-of_z w64 c.number_in-number.result (record { sfits = c.number_in-number.type_inv }) ∙ c.number_in-number.ensures ∙ ap number_in c.in-Heartbeat.is in
     serves_as (g.D.Drainer.drains c.args.self.now.drainer) c.args.seat.now c.close_instants.new.seat c.args.request _ (answer_of c.close_instants.result) c.in-Heartbeat.is
-    (subst (λ z. CarriesNamed FindsStream (string_bytes c.in-Heartbeat.stream) UnknownStream (λ n. Heartbeat n z) c.args.seat.now (answer_of c.close_instants.result) c.close_instants.new.seat) same
+    (subst (λ z. CarriesNamed stream_named (string_bytes c.in-Heartbeat.stream) UnknownStream (λ n. Heartbeat n z) c.args.seat.now (answer_of c.close_instants.result) c.close_instants.new.seat) same
     (rw c.as_str-in-Heartbeat.ensures.value at c.close_instants.ensures))
 
 pub returns-in-Take : goal.returns-in-Take
 returns-in-Take g c =
     let same = to_z-of_z w64 c.number_in-number.result (record { sfits = c.number_in-number.type_inv }) ∙ c.number_in-number.ensures ∙ ap number_in c.in-Take.is in
     serves_as (g.D.Drainer.drains c.args.self.now.drainer) c.args.seat.now c.take.new.seat c.args.request _ (answer_of c.take.result) c.in-Take.is
-    (subst (λ z. CarriesNamed FindsQuery (string_bytes c.in-Take.query) UnknownQuery (λ n. Take n z) c.args.seat.now (answer_of c.take.result) c.take.new.seat) same
+    (subst (λ z. CarriesNamed query_named (string_bytes c.in-Take.query) UnknownQuery (λ n. Take n z) c.args.seat.now (answer_of c.take.result) c.take.new.seat) same
     (rw c.as_str-in-Take.ensures.value at c.take.ensures))
 
 pub returns-in-Drop : goal.returns-in-Drop

@@ -7,7 +7,7 @@ use Rattle.std.proofs.lemmas.Bool.{false≢true}
 use Rattle.clap.specs.Words.{Kinds, Text, HasKind, IsAmong, kind_of}
 use Rattle.clap.specs.declared.error.Error.{Error}
 use Rattle.clap.specs.declared.error.kind.ErrorKind.TheVariants.{DisplayHelp, DisplayVersion, OutOfMemory}
-use Rattle.reference.specs.Machine.{Machine, empty}
+use Rattle.reference.specs.Machine.{Machine}
 use Rattle.reference.specs.World.{World}
 use Rattle.reference.proofs.AlikeLemmas.{world_itself}
 use Rattle.wire.specs.Calls.{Call}

@@ -1,8 +1,8 @@
-//! Tests that a heartbeat wakes a worker that waits. After one that wakes nobody, a settle does,
-//! and so do a status, a call to wake, a drain that leaves work and a forget. So a connection that
-//! closes instants and does not drain wakes a worker, and so does one that only asks for the
-//! status. A pool that waits for a turn is woken when the turn's query is dropped, and when the
-//! turn is given up or comes back.
+//! Tests that a heartbeat wakes a worker that waits. After one that wakes nobody, other calls do: a
+//! settle, a status, a peek, a call to wake, a drain that leaves work, a forget. So a connection
+//! that closes instants and does not drain wakes a worker, and so does one that only looks. A pool
+//! that waits for a turn is woken when the turn's query is dropped, and when the turn is given up
+//! or comes back.
 
 use crate::agreement::next_done;
 use crate::fixture::{filled, ready};
@@ -204,22 +204,36 @@ fn after_the_end_no_turn_is_waited_for(rt: HostRuntime) -> Result<(), Fail> {
     Ok(())
 }
 
-// Asks by a connection once the worker waits: for the status, after a heartbeat that wakes nobody,
-// or to close the instant. Returns whether an answer came.
+/// Is what a connection is asked.
+#[derive(Clone, Copy, PartialEq, Eq)]
+enum Asked {
+    /// Closes the instant.
+    Heartbeat,
+    /// Asks how far all is.
+    Status,
+    /// Asks for the answers that wait.
+    Peek,
+}
+
+// Asks by a connection once the worker waits. A look comes after a heartbeat that wakes nobody.
+// Returns whether an answer came.
 fn ask_by_a_connection<R: Threads + Wait + Clock + Sync>(
     rt: &R,
     alloc: Global,
     hub: &Hub,
     mut seat: Seat,
-    looks: bool,
+    asked: Asked,
 ) -> bool {
     thread::sleep(rt, Duration::from_millis(REST));
-    let mut line = b"{\"op\":\"heartbeat\",\"stream\":\"S\",\"at\":0}\n".as_slice();
-    if looks {
+    if asked != Asked::Heartbeat {
         let _ = hub.heartbeat_named(rt, &mut seat, "S", 0);
-        line = b"{\"op\":\"status\"}\n".as_slice();
     }
-    let mut source = MemorySource::new(line);
+    let line = match asked {
+        Asked::Heartbeat => "{\"op\":\"heartbeat\",\"stream\":\"S\",\"at\":0}\n",
+        Asked::Status => "{\"op\":\"status\"}\n",
+        Asked::Peek => "{\"op\":\"peek\",\"query\":\"q\",\"limit\":1}\n",
+    };
+    let mut source = MemorySource::new(line.as_bytes());
     let mut sink = MemorySink::new(alloc);
     let connection = Connection::new(rt, alloc, hub, 256, 0);
     let served = connection.serve(&mut source, &mut sink, &mut seat);
@@ -234,11 +248,11 @@ fn is_woken_by_a_connection<R: Threads + Wait + Clock + Sync>(
     alloc: Global,
     hub: &Hub,
     seat: Seat,
-    looks: bool,
+    asked: Asked,
 ) -> bool {
     let (is_answered, ()) = thread::join(
         rt,
-        move || ask_by_a_connection(rt, alloc, hub, seat, looks),
+        move || ask_by_a_connection(rt, alloc, hub, seat, asked),
         move || work(rt, alloc, hub, &NoGate, 256),
     );
     is_answered
@@ -247,14 +261,21 @@ fn is_woken_by_a_connection<R: Threads + Wait + Clock + Sync>(
 #[test]
 fn a_status_wakes_a_worker(rt: HostRuntime) -> Result<(), Fail> {
     let (hub, seat) = filled(&rt, rt.alloc(), 5)?;
-    assert!(rt; is_woken_by_a_connection(&rt, rt.alloc(), &hub, seat, true));
+    assert!(rt; is_woken_by_a_connection(&rt, rt.alloc(), &hub, seat, Asked::Status));
+    Ok(())
+}
+
+#[test]
+fn a_peek_wakes_a_worker(rt: HostRuntime) -> Result<(), Fail> {
+    let (hub, seat) = filled(&rt, rt.alloc(), 5)?;
+    assert!(rt; is_woken_by_a_connection(&rt, rt.alloc(), &hub, seat, Asked::Peek));
     Ok(())
 }
 
 #[test]
 fn a_connection_wakes_a_worker(rt: HostRuntime) -> Result<(), Fail> {
     let (hub, seat) = filled(&rt, rt.alloc(), 5)?;
-    assert!(rt; is_woken_by_a_connection(&rt, rt.alloc(), &hub, seat, false));
+    assert!(rt; is_woken_by_a_connection(&rt, rt.alloc(), &hub, seat, Asked::Heartbeat));
     Ok(())
 }
 

@@ -49,10 +49,13 @@ fn fill<R: Wait>(
 ) -> Result<(), Fault> {
     let mut rows = NewRows::new(alloc);
     for number in 0..512 {
-        rows.push_row(start + number / 32 * 7, &[Some(number * 7 % 11)])?;
+        rows.push_row(
+            start.saturating_add(number / 32 * 7),
+            &[Some(number % 11 * 7 % 11)],
+        )?;
     }
     hub.append(rt, seat, 0, rows)?;
-    hub.heartbeat(rt, seat, 0, start + 200)?;
+    hub.heartbeat(rt, seat, 0, start.saturating_add(200))?;
     Ok(())
 }
 

@@ -10,7 +10,7 @@ from evaluate import answers, changes, relation
 from queries import Query
 
 WAYS = (["--plain"], ["--turn", "1"], ["--turn", "7"], ["--turn", "256"], ["--turn", "1024"],
-        ["--workers", "2"])
+        ["--workers", "1"], ["--workers", "2"], ["--workers", "4"])
 # A gap above which the evaluator has to skip instants, and --plain takes too long.
 MANY = 1_000
 DONE = {"ok": True}

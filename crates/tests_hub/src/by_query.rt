@@ -17,7 +17,7 @@ const QUERIES: [&str; 8] = [
     "Select Istream(x.a) From S [Range 3] x, S [Now] y Where x.a = y.a",
     "Select Dstream(a) From S [Rows 20]",
     "Select Istream(a) From S [Range 100 Slide 50]",
-    "Select Istream(Count(*)) From S [Partition By a Rows 2]",
+    "Select Rstream(Count(*)) From S [Partition By a Rows 2]",
     "Select Dstream(x.a, y.a) From S [Range 2] x, S [Range 1] y Where x.a = y.a",
 ];
 

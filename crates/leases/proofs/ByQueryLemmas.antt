@@ -72,6 +72,10 @@ all_any rows (s ∷ steps) e e2 good h =
     let later = all_any rows steps h.0 e2 (any_good rows one.0 e h.0 good one.1.0) h.1.1 in
     (later.0, (one.0 ∷ later.1.0, ((h.0, (one.1.0, later.1.1.0)), (one.1.1, later.1.1.1))))
 
+-- turns of greatest slope were done
+pub few_done : (old new : PlainEngine) (rows : ℕ) → GoodEngine old → RunsTurns old rows (Ok tt) new → SomeWereDone rows old new
+few_done old new rows good h = (all_any rows h.1.0 old new good h.1.1).1
+
 wanted_any : (rows : ℕ) (e e2 : PlainEngine) → GoodEngine e → RanOutOfMemory rows e e2 → SomeWereTried rows e e2
 wanted_any rows e e2 good (inl h) = ([], h.2)
 wanted_any rows e e2 good (inr h) = (FailedAny (lease_of h.0) ∷ [], (e2, ((h.1.0, (goes_of_any rows e h.0 h.1.0 good h.1.1.0, h.1.1.1)), refl)))

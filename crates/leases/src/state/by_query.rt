@@ -31,8 +31,12 @@ use std::thread::Threads;
 /// To start and to end a thread costs as much as tens of rows.
 const ROWS_OF_A_THREAD: u64 = 1_024;
 
+/// Says after how many turns it pays to look for the ready queries, at the cost of a look at each.
+const FEW_TURNS: u64 = 64;
+
 impl State {
-    /// Drains the ready queries one after the other. Then runs what is left, turn by turn.
+    /// Runs a few turns, so that a short drain looks at no idle query. Then drains the ready queries
+    /// one after the other, and runs what is left, turn by turn.
     pub(crate) fn drain(&mut self, rows: u32) -> Result<(), Fault>
         requires { IsSound self.old }
         ensures runs { RunsByQuery (engine_in self.old) rows result (engine_in self.new) }
@@ -43,6 +47,10 @@ impl State {
     {
         if let Some(fault) = turn_fault(rows) {
             return Err(fault);
+        }
+        let until = self.next.saturating_add(FEW_TURNS);
+        if !self.run_until(rows, until)? {
+            return Ok(());
         }
         self.run_each(rows as usize)?;
         self.run_turns(rows)

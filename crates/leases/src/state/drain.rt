@@ -79,7 +79,7 @@ impl State {
 
     /// Runs one turn after the other, each with a number below `until`, until no operator may take
     /// anything. Returns whether one still may.
-    fn run_until(&mut self, rows: u32, until: u64) -> Result<bool, Fault>
+    pub(crate) fn run_until(&mut self, rows: u32, until: u64) -> Result<bool, Fault>
         requires sound { IsSound self.old }
         requires accepted { drain_fault rows ≡ None }
         requires within { self.old.next ≤ until }

@@ -35,8 +35,8 @@ const ROWS_OF_A_THREAD: u64 = 1_024;
 const FEW_TURNS: u64 = 64;
 
 impl State {
-    /// Runs a few turns, so that a short drain looks at no idle query. Then drains the ready queries
-    /// one after the other, and runs what is left, turn by turn.
+    /// Runs a few turns, so that a short drain looks at no idle query. Then drains the ready
+    /// queries one after the other, and runs what is left, turn by turn.
     pub(crate) fn drain(&mut self, rows: u32) -> Result<(), Fault>
         requires { IsSound self.old }
         ensures runs { RunsByQuery (engine_in self.old) rows result (engine_in self.new) }

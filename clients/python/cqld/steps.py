@@ -43,6 +43,13 @@ class Found(NamedTuple):
 Steps = Generator[Sent | Line | Nap | Found, Reply, None]
 
 
+def _resume(steps: Steps[Sent], outcome: Reply | CqldError) -> Sent | Line | Nap | Found:
+    """Gives the steps what came of the last one, or raises it in them. Returns the next one."""
+    if isinstance(outcome, CqldError):
+        return steps.throw(outcome)
+    return steps.send(outcome)
+
+
 def advance(
     steps: Steps[Sent],
     carry_out: Callable[[Sent | Line | Nap, Seconds | None], Reply],
@@ -61,10 +68,7 @@ def advance(
             except CqldError as error:
                 outcome = error
             # outside of the `except`, so that no other error of the steps names this one
-            if isinstance(outcome, CqldError):
-                step = steps.throw(outcome)
-            else:
-                step = steps.send(outcome)
+            step = _resume(steps, outcome)
     except StopIteration:
         return None
     return step.item
@@ -84,10 +88,7 @@ async def advance_async(
                 outcome = await carry_out(step, timeout)
             except CqldError as error:
                 outcome = error
-            if isinstance(outcome, CqldError):
-                step = steps.throw(outcome)
-            else:
-                step = steps.send(outcome)
+            step = _resume(steps, outcome)
     except StopIteration:
         return None
     return step.item

@@ -8,6 +8,7 @@ use Rattle.reference.specs.declared.limits.TheConstants.{MAX_TURN}
 use Rattle.run_queue.specs.Slots.{first_of}
 use Rattle.laws_engine.specs.Engines.{PlainEngine}
 use Rattle.reference.specs.World.{drain_fault}
+use Rattle.leases.specs.ByQuery.{RunsByQuery}
 use Rattle.leases.specs.Drains.{RunsTurns, as_drained}
 use Rattle.leases.specs.Turns.{HasReady, lease_fault}
 use Rattle.laws_engine.specs.Promises.{HasAllWaiting}
@@ -48,10 +49,20 @@ replayed_again : (old new : PlainLocked) → new ≡ with_engine old new.engine 
 replayed_again old new step same legal =
     subst (λ (l : PlainLocked). Replays (opening_in l.opening) l.history (engine_at new).machine) (sym step) (subst (λ m. Replays (opening_in old.opening) old.history m) (sym same) legal)
 
+idles : (old new : PlainLocked) (rows : ℕ) → new ≡ with_engine old new.engine → IsReplayed old → (engine_at new).machine ≡ (engine_at old).machine → drain_fault rows ≡ None → first_of (engine_at new).slots ≡ None → HasAllWaiting (engine_at new) → Hands new rows (Ok Idle) new
+idles old new rows step legal machine fits none all = record {
+  legal = replayed_again old new step machine legal;
+  leases = (idle_fault (engine_at new) rows fits none, none, refl);
+  idle = λ same. all;
+}
+
 pub would_idle : (old new : PlainLocked) (rows : ℕ) (r : Result Bool Fault) → new ≡ with_engine old new.engine → IsReplayed old → RunsTurns (engine_at old) rows (as_drained r) (engine_at new)
     → (engine_at new).machine ≡ (engine_at old).machine → (r ≡ Ok false → first_of (engine_at new).slots ≡ None) → (r ≡ Ok false → HasAllWaiting (engine_at new)) → r ≡ Ok false → Hands new rows (Ok Idle) new
-would_idle old new rows r step legal runs machine idle all is = record {
-  legal = replayed_again old new step machine legal;
-  leases = (idle_fault (engine_at new) rows (subst (λ (x : Result Bool Fault). RunsTurns (engine_at old) rows (as_drained x) (engine_at new)) is runs).0 (idle is), idle is, refl);
-  idle = λ same. all is;
-}
+would_idle old new rows r step legal runs machine idle all is =
+    idles old new rows step legal machine (subst (λ (x : Result Bool Fault). RunsTurns (engine_at old) rows (as_drained x) (engine_at new)) is runs).0 (idle is) (all is)
+
+-- and the same query by query
+pub idle_by_query : (old new : PlainLocked) (rows : ℕ) (r : Result Bool Fault) → new ≡ with_engine old new.engine → IsReplayed old → RunsByQuery (engine_at old) rows (as_drained r) (engine_at new)
+    → (engine_at new).machine ≡ (engine_at old).machine → (r ≡ Ok false → first_of (engine_at new).slots ≡ None) → (r ≡ Ok false → HasAllWaiting (engine_at new)) → r ≡ Ok false → Hands new rows (Ok Idle) new
+idle_by_query old new rows r step legal runs machine idle all is =
+    idles old new rows step legal machine (subst (λ (x : Result Bool Fault). RunsByQuery (engine_at old) rows (as_drained x) (engine_at new)) is runs).0 (idle is) (all is)

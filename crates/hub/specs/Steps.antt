@@ -240,6 +240,23 @@ pub record DrainsSome (old : PlainLocked) (rows turns : ℕ) (result : Result Bo
   pub fewer : result ≡ Err TooManyLeases → (engine_at new).next < (engine_at old).next + turns
   pub looks : turns ≡ 0 → (engine_at new ≡ engine_at old) × IfErr result (λ f. f ≡ BadLimit)
 
+-- and the same query by query: those of different queries run in any order, also at the same time
+pub record DrainsSomeByQuery (old : PlainLocked) (rows turns : ℕ) (result : Result Bool Fault)
+    (new : PlainLocked) : Type 0 where
+  pub legal : IsReplayed old
+  pub runs : RunsByQuery (engine_at old) rows (as_drained result) (engine_at new)
+  pub others : LeavesOthers (engine_at old) (as_drained result) (engine_at new)
+  pub machine : (engine_at new).machine ≡ (engine_at old).machine
+  pub most : (engine_at new).next ≤ (engine_at old).next + turns
+  pub some : turns ≢ 0 → HasReady (engine_at old)
+      → OnOk result ((engine_at old).next < (engine_at new).next)
+  pub more : result ≡ Ok true → HasReady (engine_at new)
+  pub last : result ≡ Ok true → (engine_at new).next ≡ (engine_at old).next + turns
+  pub idle : result ≡ Ok false → first_of (engine_at new).slots ≡ None
+  pub all : result ≡ Ok false → HasAllWaiting (engine_at new)
+  pub rest : result ≡ Ok false → Hands new rows (Ok leased.Idle) new
+  pub fewer : result ≡ Err TooManyLeases → (engine_at new).next < (engine_at old).next + turns
+
 -- a turn of at most so many rows goes out
 pub record Lends (old : PlainLocked) (rows : ℕ) (t : Turn) (new : PlainLocked) : Type 0 where
   pub legal : IsReplayed old

@@ -1,6 +1,6 @@
 -- A drain that takes query by query goes through turns of operators that might be leased, whatever their slopes.
-use Rattle.std.proofs.Common.{◌≡◌, ◌≢◌, ◌≤◌, ◌+◌, ◌++◌, ◌⊎◌, ⊎_elim, inl, inr, ℕ, true, false, Some, None, Result, Ok, Err, OnOk, List, [], ◌∷◌, length, map, refl, sym, ap, ◌∙◌, subst, arith}
-use Rattle.std.specs.Prelude.{⊤}
+use Rattle.std.proofs.Common.{◌≡◌, ◌≢◌, ◌<◌, ◌≤◌, ◌+◌, ◌++◌, ◌⊎◌, ⊎_elim, inl, inr, ℕ, true, false, Some, None, Result, Ok, Err, OnOk, List, [], ◌∷◌, length, map, refl, sym, ap, ◌∙◌, subst, arith}
+use Rattle.std.specs.Prelude.{⊤, Bool, ◌||◌, is_some}
 use Rattle.std.specs.List.{AllByRecursion}
 use Rattle.values.specs.Row.{Row}
 use Rattle.reference.specs.World.{Drains, drain_fault, drain_step}
@@ -17,14 +17,14 @@ use Rattle.laws_engine.proofs.HistoryLemmas.{step_good}
 use Rattle.laws_engine.proofs.LeaseLemmas.{leasable_ready, ready_good}
 use Rattle.laws_engine.proofs.OrderLemmas.{finish_kinds, kind_on, kind_same, pass_kinds}
 use Rattle.laws_engine.proofs.PassingLemmas.{pass_good}
-use Rattle.leases.specs.ByQuery.{AnyStep, FailedAny, GoesOutOfAny, HaveRunAny, IsAnyStep, PassedAny, RanAny, RunsByQuery, SomeWereDone, SomeWereTried, has_failed}
-use Rattle.leases.specs.Drains.{HasBrokenOne, RanOutOfMemory, HaveRun, IsDone, LeavesOthers, Passed, Ran, RunsTurns, Step}
+use Rattle.leases.specs.ByQuery.{AnyStep, FailedAny, GoesOutOfAny, HaveRunAny, IsAnyStep, PassedAny, HasRunOut, RanAny, RunsByQuery, SomeHaveFailed, SomeWereDone, has_failed, one_has_failed}
+use Rattle.leases.specs.Drains.{HasBrokenOne, RanOutOfMemory, HaveRun, IsDone, LeavesOthers, Passed, Ran, RunsTurns, Step, as_drained}
 use Rattle.leases.specs.Sound.{is_gone}
-use Rattle.leases.specs.Turns.{IsFull, IsTurnOf}
+use Rattle.leases.specs.Turns.{HasReady, IsFull, IsTurnOf, lease_fault}
 use Rattle.leases.specs.Views.{lease_of}
 use Rattle.leases.specs.Whole.{IsWholeEngine}
 use Rattle.leases.specs.declared.limits.TheConstants.{LEASE_NUMBERS}
-use Rattle.leases.proofs.DrainLemmas.{comes_machine, comes_next}
+use Rattle.leases.proofs.DrainLemmas.{comes_machine, comes_next, limit_is}
 use Rattle.leases.proofs.NumberLemmas.{HasGivenMore}
 use Rattle.leases.proofs.WorldLemmas.{all_reached, all_wait, drain_done, drain_refused, stops_early}
 
@@ -43,11 +43,44 @@ done_none rows e e2 same = ([], (same, tt))
 pub done_on : (rows : ℕ) (e1 e2 e3 : PlainEngine) → SomeWereDone rows e1 e2 → SomeWereDone rows e2 e3 → SomeWereDone rows e1 e3
 done_on rows e1 e2 e3 one two = (one.0 ++ two.0, (any_on rows e1 e2 e3 one.0 two.0 one.1.0 two.1.0, both_done one.0 two.0 one.1.1 two.1.1))
 
-pub tried_on : (rows : ℕ) (e1 e2 e3 : PlainEngine) → SomeWereTried rows e1 e2 → SomeWereTried rows e2 e3 → SomeWereTried rows e1 e3
-tried_on rows e1 e2 e3 one two = (one.0 ++ two.0, any_on rows e1 e2 e3 one.0 two.0 one.1 two.1)
+-- one of them failed
+or_right : (a b : Bool) → b ≡ true → (a || b) ≡ true
+or_right true b h = refl
+or_right false b h = h
 
-pub tried : (rows : ℕ) (e e2 : PlainEngine) → SomeWereDone rows e e2 → SomeWereTried rows e e2
-tried rows e e2 h = (h.0, h.1.0)
+or_later : (a b c : Bool) → (b ≡ true → c ≡ true) → (a || b) ≡ true → (a || c) ≡ true
+or_later true b c f h = refl
+or_later false b c f h = f h
+
+pub failed_behind : (steps later : List AnyStep) → one_has_failed later ≡ true → one_has_failed (steps ++ later) ≡ true
+failed_behind [] later h = h
+failed_behind (s ∷ steps) later h = or_right (has_failed s) (one_has_failed (steps ++ later)) (failed_behind steps later h)
+
+failed_before : (steps later : List AnyStep) → one_has_failed steps ≡ true → one_has_failed (steps ++ later) ≡ true
+failed_before [] later h = absurd (let bad : false ≡ true = h in cc)
+failed_before (s ∷ steps) later h = or_later (has_failed s) (one_has_failed steps) (one_has_failed (steps ++ later)) (failed_before steps later) h
+
+pub failed_since : (rows : ℕ) (e1 e2 e3 : PlainEngine) → SomeWereDone rows e1 e2 → SomeHaveFailed rows e2 e3 → SomeHaveFailed rows e1 e3
+failed_since rows e1 e2 e3 one two = (one.0 ++ two.0, (any_on rows e1 e2 e3 one.0 two.0 one.1.0 two.1.0, failed_behind one.0 two.0 two.1.1))
+
+pub failed_then : (rows : ℕ) (e1 e2 e3 : PlainEngine) → SomeHaveFailed rows e1 e2 → SomeWereDone rows e2 e3 → SomeHaveFailed rows e1 e3
+failed_then rows e1 e2 e3 one two = (one.0 ++ two.0, (any_on rows e1 e2 e3 one.0 two.0 one.1.0 two.1.0, failed_before one.0 two.0 one.1.1))
+
+pub failed_twice : (rows : ℕ) (e1 e2 e3 : PlainEngine) → SomeHaveFailed rows e1 e2 → SomeHaveFailed rows e2 e3 → SomeHaveFailed rows e1 e3
+failed_twice rows e1 e2 e3 one two = (one.0 ++ two.0, (any_on rows e1 e2 e3 one.0 two.0 one.1.0 two.1.0, failed_before one.0 two.0 one.1.1))
+
+runs_out_on : (rows : ℕ) (e1 e2 e3 : PlainEngine) → SomeWereDone rows e1 e2 → HasRunOut rows e2 e3 → HasRunOut rows e1 e3
+runs_out_on rows e1 e2 e3 one h = ⊎_elim
+    (λ failed. inl (failed_since rows e1 e2 e3 one failed))
+    (λ lacked. inr (done_on rows e1 e2 e3 one lacked.0, lacked.1, lacked.2))
+    h
+
+-- whether or not one failed
+abbrev SomeWereTried : ℕ → PlainEngine → PlainEngine → Type 0
+SomeWereTried rows old new = (steps : List AnyStep) × HaveRunAny rows old steps new
+
+tried : (rows : ℕ) (e e2 : PlainEngine) → HasRunOut rows e e2 → SomeWereTried rows e e2
+tried rows e e2 h = ⊎_elim (λ failed. (failed.0, failed.1.0)) (λ lacked. (lacked.0.0, lacked.0.1.0)) h
 
 -- A TURN OF GREATEST SLOPE is one of an operator that might be leased
 goes_of_any : (rows : ℕ) (e : PlainEngine) (t : Turn) (out : PlainEngine) → GoodEngine e → IsTurnOf e rows t out → GoesOutOfAny rows e (lease_of t) out
@@ -76,9 +109,9 @@ all_any rows (s ∷ steps) e e2 good h =
 pub few_done : (old new : PlainEngine) (rows : ℕ) → GoodEngine old → RunsTurns old rows (Ok tt) new → SomeWereDone rows old new
 few_done old new rows good h = (all_any rows h.1.0 old new good h.1.1).1
 
-wanted_any : (rows : ℕ) (e e2 : PlainEngine) → GoodEngine e → RanOutOfMemory rows e e2 → SomeWereTried rows e e2
-wanted_any rows e e2 good (inl h) = ([], h.2)
-wanted_any rows e e2 good (inr h) = (FailedAny (lease_of h.0) ∷ [], (e2, ((h.1.0, (goes_of_any rows e h.0 h.1.0 good h.1.1.0, h.1.1.1)), refl)))
+wanted_any : (rows : ℕ) (e e2 : PlainEngine) → GoodEngine e → RanOutOfMemory rows e e2 → HasRunOut rows e e2
+wanted_any rows e e2 good (inl h) = inr (done_none rows e e2 h.2, subst (λ z. lease_fault z rows ≡ None) (sym h.2) h.0, subst HasReady (sym h.2) h.1)
+wanted_any rows e e2 good (inr h) = inl (FailedAny (lease_of h.0) ∷ [], ((e2, ((h.1.0, (goes_of_any rows e h.0 h.1.0 good h.1.1.0, h.1.1.1)), refl)), refl))
 
 -- THE WHOLE DRAIN: query by query, and then turn by turn
 both_limits : (rows : ℕ) → drain_fault rows ≡ None → drain_fault rows ≡ Some BadLimit → ⊥
@@ -90,7 +123,7 @@ drained old mid new rows (Err BadLimit) good none first h = absurd (both_limits 
 drained old mid new rows (Err TooManyLeases) good none first h = (none, (done_on rows old mid new first (all_any rows h.1.0.0 mid new good h.1.0.1).1, h.1.1, h.1.2))
 drained old mid new rows (Err OutOfMemory) good none first h =
     let ran = all_any rows h.1.1.0.0 mid h.1.0 good h.1.1.0.1 in
-    (none, tried_on rows old mid new (tried rows old mid first) (tried_on rows mid h.1.0 new (tried rows mid h.1.0 ran.1) (wanted_any rows h.1.0 new ran.0 h.1.1.1)))
+    (none, runs_out_on rows old mid new first (runs_out_on rows mid h.1.0 new ran.1 (wanted_any rows h.1.0 new ran.0 h.1.1.1)))
 drained old mid new rows (Err (Query x)) good none first h = absurd h
 drained old mid new rows (Err BadName) good none first h = absurd h
 drained old mid new rows (Err NameTaken) good none first h = absurd h
@@ -111,38 +144,18 @@ drained old mid new rows (Err Stranger) good none first h = absurd h
 drained old mid new rows (Err HistoryFull) good none first h = absurd h
 drained old mid new rows (Err (Foreign entries)) good none first h = absurd h
 
--- and the same where the rest goes query by query too
-pub drained_on : (old mid new : PlainEngine) (rows : ℕ) (r : Result ⊤ Fault) → drain_fault rows ≡ None → SomeWereDone rows old mid → RunsByQuery mid rows r new → RunsByQuery old rows r new
-drained_on old mid new rows (Ok u) none first h = (none, done_on rows old mid new first h.1)
-drained_on old mid new rows (Err BadLimit) none first h = absurd (both_limits rows none h.0)
-drained_on old mid new rows (Err TooManyLeases) none first h = (none, (done_on rows old mid new first h.1.0, h.1.1, h.1.2))
-drained_on old mid new rows (Err OutOfMemory) none first h = (none, tried_on rows old mid new (tried rows old mid first) h.1)
-drained_on old mid new rows (Err (Query x)) none first h = absurd h
-drained_on old mid new rows (Err BadName) none first h = absurd h
-drained_on old mid new rows (Err NameTaken) none first h = absurd h
-drained_on old mid new rows (Err BadColumns) none first h = absurd h
-drained_on old mid new rows (Err TooMany) none first h = absurd h
-drained_on old mid new rows (Err UnknownStream) none first h = absurd h
-drained_on old mid new rows (Err UnknownQuery) none first h = absurd h
-drained_on old mid new rows (Err BadWidth) none first h = absurd h
-drained_on old mid new rows (Err ValueRange) none first h = absurd h
-drained_on old mid new rows (Err InstantRange) none first h = absurd h
-drained_on old mid new rows (Err Late) none first h = absurd h
-drained_on old mid new rows (Err Backward) none first h = absurd h
-drained_on old mid new rows (Err Leap) none first h = absurd h
-drained_on old mid new rows (Err StreamFull) none first h = absurd h
-drained_on old mid new rows (Err fault.Broken) none first h = absurd h
-drained_on old mid new rows (Err UnknownLease) none first h = absurd h
-drained_on old mid new rows (Err Stranger) none first h = absurd h
-drained_on old mid new rows (Err HistoryFull) none first h = absurd h
-drained_on old mid new rows (Err (Foreign entries)) none first h = absurd h
+-- or it is refused
+pub refused_by_query : (e : PlainEngine) (rows : ℕ) (f : Fault) → Some f ≡ drain_fault rows → RunsByQuery e rows (Err f) e
+refused_by_query e rows f h =
+    let is : f ≡ BadLimit = limit_is rows f h in
+    subst (λ z. RunsByQuery e rows (Err z) e) (sym is) (sym h ∙ ap Some is, refl)
 
 -- WHAT A DRAIN GOES THROUGH
 pub ends : (old new : PlainEngine) (rows : ℕ) (r : Result ⊤ Fault) → RunsByQuery old rows r new → SomeWereTried rows old new
 ends old new rows (Ok u) h = (h.1.0, h.1.1.0)
 ends old new rows (Err BadLimit) h = ([], h.1)
 ends old new rows (Err TooManyLeases) h = (h.1.0.0, h.1.0.1.0)
-ends old new rows (Err OutOfMemory) h = h.1
+ends old new rows (Err OutOfMemory) h = tried rows old new h.1
 ends old new rows (Err (Query x)) h = absurd h
 ends old new rows (Err BadName) h = absurd h
 ends old new rows (Err NameTaken) h = absurd h
@@ -177,13 +190,13 @@ pub by_query_machine : (old new : PlainEngine) (rows : ℕ) (r : Result ⊤ Faul
 by_query_machine old new rows r h = let t = ends old new rows r h in all_machine rows t.0 old new t.1
 
 -- and numbers are given, none taken back
-any_gives : (rows : ℕ) (s : AnyStep) (e e2 : PlainEngine) → IsAnyStep rows e s e2 → HasGivenMore e e2
-any_gives rows (RanAny l) e e2 h =
+any_counts : (rows : ℕ) (s : AnyStep) (e e2 : PlainEngine) → IsAnyStep rows e s e2 → e.next + 1 ≡ e2.next
+any_counts rows (RanAny l) e e2 h =
     let home : e2.next ≡ h.0.next = comes_next h.0 e2 l h.1.1.1.0 h.1.1.1.1.0 h.1.1.1.1.1.0 h.1.1.1.1.1.1 in
     let went : h.0.next ≡ e.next + 1 = ap (λ z. z.next) h.1.0.1.1.1 in
     omega (arith, home, went)
-any_gives rows (PassedAny n b) e e2 h = let one : e2.next ≡ e.next + 1 = ap (λ z. z.next) h.is in omega (arith, one)
-any_gives rows (FailedAny l) e e2 h =
+any_counts rows (PassedAny n b) e e2 h = let one : e2.next ≡ e.next + 1 = ap (λ z. z.next) h.is in omega (arith, one)
+any_counts rows (FailedAny l) e e2 h =
     let home : e2.next ≡ h.0.next = ap (λ z. z.next) h.1.1.1.1.1.1 in
     let went : h.0.next ≡ e.next + 1 = ap (λ z. z.next) h.1.0.1.1.1 in
     omega (arith, home, went)
@@ -191,12 +204,30 @@ any_gives rows (FailedAny l) e e2 h =
 all_give : (rows : ℕ) (steps : List AnyStep) (e e2 : PlainEngine) → HaveRunAny rows e steps e2 → HasGivenMore e e2
 all_give rows [] e e2 h = let same : e2.next ≡ e.next = ap (λ z. z.next) h in omega (arith, same)
 all_give rows (s ∷ steps) e e2 h =
-    let one : e.next ≤ h.0.next = any_gives rows s e h.0 h.1.0 in
+    let one : e.next + 1 ≡ h.0.next = any_counts rows s e h.0 h.1.0 in
     let more : h.0.next ≤ e2.next = all_give rows steps h.0 e2 h.1.1 in
     omega (arith, one, more)
 
 pub by_query_gives : (old new : PlainEngine) (rows : ℕ) (r : Result ⊤ Fault) → RunsByQuery old rows r new → HasGivenMore old new
 by_query_gives old new rows r h = let t = ends old new rows r h in all_give rows t.0 old new t.1
+
+-- SOMETHING HAS RUN where something was ready, and nothing is any more
+some_any : (rows : ℕ) (steps : List AnyStep) (e e2 : PlainEngine) → HaveRunAny rows e steps e2 → HasReady e → first_of e2.slots ≡ None → e.next < e2.next
+some_any rows [] e e2 h ready none =
+    let never : is_some (first_of e.slots) ≡ false = ap (λ z. is_some (first_of z.slots)) (sym h) ∙ ap is_some none in
+    absurd (cc)
+some_any rows (s ∷ steps) e e2 h ready none =
+    let one : e.next + 1 ≡ h.0.next = any_counts rows s e h.0 h.1.0 in
+    let more : h.0.next ≤ e2.next = all_give rows steps h.0 e2 h.1.1 in
+    omega (arith, one, more)
+
+pub some_by_query : (old new : PlainEngine) (rows turns : ℕ) (r : Result Bool Fault) → RunsByQuery old rows (as_drained r) new → (r ≡ Ok true → new.next ≡ old.next + turns) → (r ≡ Ok false → first_of new.slots ≡ None)
+    → turns ≢ 0 → HasReady old → OnOk r (old.next < new.next)
+some_by_query old new rows turns (Ok true) ran last idle some ready =
+    let all : new.next ≡ old.next + turns = last refl in
+    omega (arith, all, some)
+some_by_query old new rows turns (Ok false) ran last idle some ready = some_any rows ran.1.0 old new ran.1.1.0 ready (idle refl)
+some_by_query old new rows turns (Err f) ran last idle some ready = tt
 
 -- NO QUERY BREAKS where no step fails
 any_kinds : (rows : ℕ) (s : AnyStep) (e e2 : PlainEngine) → GoodEngine e → IsAnyStep rows e s e2 → has_failed s ≡ false → SameKinds e e2

@@ -38,6 +38,7 @@ use Rattle.leases.specs.declared.state.jobs.TheConstants.{MOST_TURNS}
 use Rattle.leases.proofs.AloneLemmas as alone
 use Rattle.leases.proofs.AloneLemmas.{After, HasRunOn, after_on, all_own, failed, failing, fails_after, fails_step}
 use Rattle.leases.proofs.BeatLemmas.{next_is}
+use Rattle.leases.proofs.ByQueryLemmas.{failed_behind}
 use Rattle.leases.proofs.ListedLemmas.{readers_left}
 use Rattle.leases.proofs.StandLemmas.{all_of}
 use Rattle.leases.proofs.ToldAllLemmas.{all_told, below_are, gone_on, told_as}
@@ -411,7 +412,7 @@ module _ (e : PlainEngine) (rows : ℕ) (rest : List Job) (job : Job) (s : State
         pub home_broken : (e3 : PlainEngine) × (AreOut e3 rows rest w × HaveComeHome rows false e e3)
         home_broken = (
           e2,
-          (comes_home w gone (count + 1) e2 after2 counts refl engine_gone slots_gone leases_gone (ap (λ (z : State). z.undropped) stops.rest ∙ undropped) readers_gone, (on.steps ++ FailedAny (failing e1 n q after on.after.good returned_on registered_on running_on rows fails_on) ∷ [], tried)),
+          (comes_home w gone (count + 1) e2 after2 counts refl engine_gone slots_gone leases_gone (ap (λ (z : State). z.undropped) stops.rest ∙ undropped) readers_gone, (on.steps ++ FailedAny (failing e1 n q after on.after.good returned_on registered_on running_on rows fails_on) ∷ [], (tried, failed_behind on.steps (FailedAny (failing e1 n q after on.after.good returned_on registered_on running_on rows fails_on) ∷ []) refl))),
         )
 
     -- WHICHEVER IT DID

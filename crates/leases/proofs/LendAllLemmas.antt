@@ -1,5 +1,5 @@
 -- Queries that are lent to jobs one after the other, and the jobs that were run.
-use Rattle.std.proofs.Common.{◌≡◌, ◌≢◌, ◌<◌, ◌≤◌, ◌+◌, ◌*◌, ◌++◌, ℕ, zero, suc, true, false, Bool, Some, List, [], ◌∷◌, drop, take, length, map, set, get_or, slice_index_or, refl, sym, ap, ap₂, ◌∙◌, subst, arith, append-nil}
+use Rattle.std.proofs.Common.{◌≡◌, ◌≢◌, ◌<◌, ◌≤◌, ◌+◌, ◌*◌, ◌++◌, ℕ, zero, suc, true, false, Bool, Some, List, [], ◌∷◌, drop, take, length, map, set, get_or, slice_index_or, refl, sym, ap, ap₂, ◌∙◌, subst, arith, append-nil, length-append}
 use Rattle.std.specs.Prelude.{slice_get}
 use Rattle.std.specs.List.{AllByRecursion}
 use Rattle.std.proofs.lemmas.List.{drop_all, get_or-set_other, length-map, length-set, map-append, set-get_or, set-set}
@@ -10,13 +10,13 @@ use Rattle.laws_queries.specs.Registrations.{HaveColumnNames}
 use Rattle.laws_engine.specs.Bounds.{HaveFewClosed}
 use Rattle.leases.specs.Alone.{MayRunAlone}
 use Rattle.leases.specs.Applied.{with_remains}
-use Rattle.leases.specs.ByQuery.{HaveComeHome, SomeWereDone, SomeWereTried}
+use Rattle.leases.specs.ByQuery.{HaveComeHome, SomeHaveFailed, SomeWereDone}
 use Rattle.leases.specs.Readers.{readers_of}
 use Rattle.leases.specs.Sound.{IsSound, is_gone}
 use Rattle.leases.specs.Undropped.{undropped_of}
 use Rattle.leases.specs.declared.registered.Registration.{Registration}
-use Rattle.leases.proofs.ByQueryLemmas.{done_on, tried, tried_on}
-use Rattle.leases.specs.Jobs.{AreBrought, AreLent, AreNewJobs, AreOut, HasRunJob, HaveNumbers, HaveOwnQueries, IsBare, IsBrought, IsDoneJob, IsJobOf, IsLentJob, IsNewJob, MayRunJob, out_of, placed}
+use Rattle.leases.proofs.ByQueryLemmas.{done_on, failed_since, failed_then, failed_twice}
+use Rattle.leases.specs.Jobs.{AreBrought, AreLent, AreNewJobs, AreOut, HasRunJob, HaveFewTurns, HaveNumbers, HaveOwnQueries, IsBare, IsBrought, IsDoneJob, IsJobOf, IsLentJob, IsNewJob, MayRunJob, out_of, placed}
 use Rattle.leases.specs.Passing.{slots_below}
 use Rattle.leases.specs.Shown.{engine_in}
 use Rattle.leases.specs.declared.limits.TheConstants.{LEASE_NUMBERS}
@@ -24,7 +24,8 @@ use Rattle.leases.specs.declared.state.jobs.TheConstants.{MOST_TURNS}
 use Rattle.leases.specs.Views.{lease_of, query_of, remains_of}
 use Rattle.leases.specs.declared.state.State.{State}
 use Rattle.leases.specs.declared.state.jobs.Job.{Job}
-use Rattle.leases.proofs.JobLemmas.{Out, placed_last, placed_length, placed_set}
+use Rattle.leases.specs.declared.state.jobs.Quota.{Quota}
+use Rattle.leases.proofs.JobLemmas.{Out, all_front, placed_last, placed_length, placed_set}
 use Rattle.leases.proofs.OutLemmas.{item_within}
 use Rattle.leases.proofs.LendLemmas.{all_more}
 
@@ -211,8 +212,8 @@ module _ (old : State) (sound : IsSound old) (returned : (engine_in old).leases 
   each_may i j lt is = may_run j (subst (IsLentJob start) (sym is) (at_place (IsLentJob start) js i j lt h.each))
 
   -- THEY HAVE RUN
-  brought_one : (rows : ℕ) (j j2 : Job) → IsLentJob start j → HasRunJob s.streams s.registered.items rows j j2 → IsBrought start rows (out_of j) j2
-  brought_one rows j j2 is ran =
+  brought_one : (quota : Quota) (j j2 : Job) → IsLentJob start j → HasRunJob s.streams s.registered.items quota j j2 → IsBrought start quota.rows (out_of j) j2
+  brought_one quota j j2 is ran =
       let r = registered_here s.registered.items j.query is.of.query (ap (λ m. slice_get m.queries j.query) machine ∙ is.of.registered) in
       record {
         same = sym ran.query;
@@ -225,17 +226,17 @@ module _ (old : State) (sound : IsSound old) (returned : (engine_in old).leases 
               (is.of.listed q p (ap (query_at start) (sym ran.query) ∙ here2) (ap (remains_at start) (sym ran.query) ∙ running));
         };
         was = is.has ∙ is.of.running;
-        done = subst (λ m. IsDoneJob m.streams is.of.query rows is.of.plain j2) machine
-            (subst (λ z. IsDoneJob s.streams z rows is.of.plain j2) r.1.1 (ran.done r.0 is.of.plain r.1.0 (is.has ∙ is.of.running)));
+        done = subst (λ m. IsDoneJob m.streams is.of.query quota.rows is.of.plain j2) machine
+            (subst (λ z. IsDoneJob s.streams z quota.rows is.of.plain j2) r.1.1 (ran.done r.0 is.of.plain r.1.0 (is.has ∙ is.of.running)));
       }
 
-  brought_all : (rows : ℕ) (xs ys : List Job) → length ys ≡ length xs → AllByRecursion (IsLentJob start) xs → ((i : ℕ) (d : Job) → i < length xs → HasRunJob s.streams s.registered.items rows (get_or xs i d) (get_or ys i d)) → AreBrought start rows (map out_of xs) ys
-  brought_all rows [] [] many each ran = tt
-  brought_all rows [] (b ∷ ys) many each ran = absurd (omega (arith, many))
-  brought_all rows (a ∷ xs) [] many each ran = absurd (omega (arith, many))
-  brought_all rows (a ∷ xs) (b ∷ ys) many each ran = (
-    brought_one rows a b each.0 (ran 0 a (omega arith)),
-    brought_all rows xs ys (omega (arith, many)) each.1 (λ i d lt. ran (suc i) d (omega (arith, lt))),
+  brought_all : (quota : Quota) (xs ys : List Job) → length ys ≡ length xs → AllByRecursion (IsLentJob start) xs → ((i : ℕ) (d : Job) → i < length xs → HasRunJob s.streams s.registered.items quota (get_or xs i d) (get_or ys i d)) → AreBrought start quota.rows (map out_of xs) ys
+  brought_all quota [] [] many each ran = tt
+  brought_all quota [] (b ∷ ys) many each ran = absurd (omega (arith, many))
+  brought_all quota (a ∷ xs) [] many each ran = absurd (omega (arith, many))
+  brought_all quota (a ∷ xs) (b ∷ ys) many each ran = (
+    brought_one quota a b each.0 (ran 0 a (omega arith)),
+    brought_all quota xs ys (omega (arith, many)) each.1 (λ i d lt. ran (suc i) d (omega (arith, lt))),
   )
 
   apart_of : (n : ℕ) (xs ys : List Job) → length ys ≡ length xs → ((i : ℕ) (d : Job) → i < length xs → (get_or ys i d).query ≡ (get_or xs i d).query) → AllByRecursion (λ (i : Job). i.query ≢ n) xs → AllByRecursion (λ (i : Job). i.query ≢ n) ys
@@ -253,8 +254,8 @@ module _ (old : State) (sound : IsSound old) (returned : (engine_in old).leases 
     own_of xs ys (omega (arith, many)) (λ i d lt. same (suc i) d (omega (arith, lt))) h.1,
   )
 
-  pub all_out : (rows : ℕ) (js2 : List Job) → length js2 ≡ length js → ((i : ℕ) (d : Job) → i < length js → HasRunJob s.streams s.registered.items rows (slice_index_or js i d) (slice_index_or js2 i d)) → AreOut start rows js2 s
-  all_out rows js2 many ran = record {
+  pub all_out : (quota : Quota) (js2 : List Job) → length js2 ≡ length js → ((i : ℕ) (d : Job) → i < length js → HasRunJob s.streams s.registered.items quota (slice_index_or js i d) (slice_index_or js2 i d)) → AreOut start quota.rows js2 s
+  all_out quota js2 many ran = record {
     good = sound.good;
     is = h.bare.is;
     returned = h.bare.leases ∙ none old.leases.items returned;
@@ -267,12 +268,22 @@ module _ (old : State) (sound : IsSound old) (returned : (engine_in old).leases 
     outs = map out_of js;
     placed = h.placed;
     apart = own_of js js2 many (λ i d lt. (ran i d lt).query) h.apart;
-    each = brought_all rows js js2 many h.each ran;
+    each = brought_all quota js js2 many h.each ran;
   }
     where
       none : (ts : List Turn) → map lease_of ts ≡ [] → ts ≡ []
       none [] e = refl
       none (t ∷ ts) e = absurd (cc)
+
+  -- and none took more numbers than it may
+  few_turns : (quota : Quota) (xs ys : List Job) → length ys ≡ length xs → ((i : ℕ) (d : Job) → i < length xs → HasRunJob s.streams s.registered.items quota (get_or xs i d) (get_or ys i d)) → HaveFewTurns quota.turns ys
+  few_turns quota [] [] many ran = tt
+  few_turns quota [] (b ∷ ys) many ran = absurd (omega (arith, many))
+  few_turns quota (a ∷ xs) [] many ran = absurd (omega (arith, many))
+  few_turns quota (a ∷ xs) (b ∷ ys) many ran = ((ran 0 a (omega arith)).most, few_turns quota xs ys (omega (arith, many)) (λ i d lt. ran (suc i) d (omega (arith, lt))))
+
+  pub all_few : (quota : Quota) (js2 : List Job) → length js2 ≡ length js → ((i : ℕ) (d : Job) → i < length js → HasRunJob s.streams s.registered.items quota (slice_index_or js i d) (slice_index_or js2 i d)) → HaveFewTurns quota.turns js2
+  all_few quota js2 many ran = few_turns quota js js2 many ran
 
 -- ALL ARE HOME
 pub home_all : (e : PlainEngine) (rows : ℕ) (s : State) (out : AreOut e rows [] s) → engine_in s ≡ e
@@ -297,17 +308,15 @@ home_sound e rows s out =
     }
 
 -- ONE AFTER THE OTHER
-as_tried : (rows : ℕ) (b : Bool) (e e2 : PlainEngine) → HaveComeHome rows b e e2 → SomeWereTried rows e e2
-as_tried rows true e e2 h = tried rows e e2 h
-as_tried rows false e e2 h = h
-
 pub both_ran : (rows : ℕ) (b r : Bool) (e1 e2 e3 : PlainEngine) → r ≡ true → HaveComeHome rows b e1 e2 → HaveComeHome rows r e2 e3 → HaveComeHome rows b e1 e3
 both_ran rows true true e1 e2 e3 t one two = done_on rows e1 e2 e3 one two
-both_ran rows false true e1 e2 e3 t one two = tried_on rows e1 e2 e3 one (tried rows e2 e3 two)
+both_ran rows false true e1 e2 e3 t one two = failed_then rows e1 e2 e3 one two
 both_ran rows b false e1 e2 e3 t one two = absurd (cc)
 
-pub one_broke : (rows : ℕ) (b r : Bool) (e1 e2 e3 : PlainEngine) → HaveComeHome rows b e1 e2 → HaveComeHome rows r e2 e3 → SomeWereTried rows e1 e3
-one_broke rows b r e1 e2 e3 one two = tried_on rows e1 e2 e3 (as_tried rows b e1 e2 one) (as_tried rows r e2 e3 two)
+pub one_broke : (rows : ℕ) (b r : Bool) (e1 e2 e3 : PlainEngine) → r ≡ false → HaveComeHome rows b e1 e2 → HaveComeHome rows r e2 e3 → SomeHaveFailed rows e1 e3
+one_broke rows true false e1 e2 e3 f one two = failed_since rows e1 e2 e3 one two
+one_broke rows false false e1 e2 e3 f one two = failed_twice rows e1 e2 e3 one two
+one_broke rows b true e1 e2 e3 f one two = absurd (cc)
 
 abbrev pub HaveAll : List Job → State → List Job → State → Bool → Type 0
 HaveAll jobs old js m b = (e : PlainEngine) (rows : ℕ) → AreOut e rows jobs old → (e2 : PlainEngine) × (AreOut e2 rows js m × HaveComeHome rows b e e2)
@@ -323,11 +332,35 @@ module _ (jobs : List Job) (old m w : State) (js rest : List Job) (job : Job) (b
       let c = home a.0 rows rest (subst (λ z. AreOut a.0 rows z m) popped a.1.0) in
       (c.0, (c.1.0, both_ran rows b r e a.0 c.0 t a.1.1 c.1.1))
 
-  pub all_broke : HaveAll jobs old js m b → HaveAll jobs old rest w false
-  all_broke h e rows out =
+  pub all_broke : r ≡ false → HaveAll jobs old js m b → HaveAll jobs old rest w false
+  all_broke f h e rows out =
       let a = h e rows out in
       let c = home a.0 rows rest (subst (λ z. AreOut a.0 rows z m) popped a.1.0) in
-      (c.0, (c.1.0, one_broke rows b r e a.0 c.0 a.1.1 c.1.1))
+      (c.0, (c.1.0, one_broke rows b r e a.0 c.0 f a.1.1 c.1.1))
+
+-- THE NUMBERS that their turns took
+abbrev pub TookFew : List Job → State → List Job → State → Type 0
+TookFew jobs old js m = (n : ℕ) → HaveFewTurns n jobs → HaveFewTurns n js × (m.next + length js * n ≤ old.next + length jobs * n)
+
+pub none_took : (jobs : List Job) (old : State) → TookFew jobs old jobs old
+none_took jobs old n few = (few, omega arith)
+
+pub one_took : (jobs : List Job) (old m w : State) (js rest : List Job) (job : Job) → js ≡ rest ++ job ∷ [] → w.next ≡ m.next + job.turns → TookFew jobs old js m → TookFew jobs old rest w
+one_took jobs old m w js rest job popped next h n few =
+    let r = h n few in
+    let apart = all_front (λ (j : Job). j.turns ≤ n) rest job (subst (HaveFewTurns n) popped r.0) in
+    let many : length js ≡ length rest + 1 = ap length popped ∙ length-append rest (job ∷ []) in
+    (apart.0, adds (length rest) (length js) n m.next w.next job.turns (old.next + length jobs * n) many next apart.1 r.1)
+  where
+    adds : (a b n s t turns all : ℕ) → b ≡ a + 1 → t ≡ s + turns → turns ≤ n → s + b * n ≤ all → t + a * n ≤ all
+    adds a b n s t turns all many next few h = let more : (a + 1) * n ≡ a * n + n = omega arith in let was : b * n ≡ (a + 1) * n = ap (λ z. z * n) many in omega (arith, next, few, h, more, was)
+
+pub all_took : (jobs : List Job) (old m : State) (js : List Job) → length js ≡ 0 → TookFew jobs old js m → (n : ℕ) → HaveFewTurns n jobs → m.next ≤ old.next + length jobs * n
+all_took jobs old m js none h n few =
+    let r = h n few in
+    let was : length js * n ≡ 0 * n = ap (λ z. z * n) none in
+    let nothing : 0 * n ≡ 0 = omega arith in
+    omega (arith, r.1, was, nothing)
 
 -- and none is left
 none_left : (js : List Job) → length js ≡ 0 → js ≡ []
@@ -343,11 +376,11 @@ ends_done jobs old m js b none t h e rows out =
     let same : engine_in m ≡ a.0 = home_all a.0 rows m (subst (λ z. AreOut a.0 rows z m) (none_left js none) a.1.0) in
     subst (SomeWereDone rows e) (sym same) (subst (λ z. HaveComeHome rows z e a.0) t a.1.1)
 
-pub ends_tried : (jobs : List Job) (old m : State) (js : List Job) (b : Bool) → length js ≡ 0 → HaveAll jobs old js m b → (e : PlainEngine) (rows : ℕ) → AreOut e rows jobs old → SomeWereTried rows e (engine_in m)
-ends_tried jobs old m js b none h e rows out =
+pub ends_failed : (jobs : List Job) (old m : State) (js : List Job) (b : Bool) → length js ≡ 0 → b ≡ false → HaveAll jobs old js m b → (e : PlainEngine) (rows : ℕ) → AreOut e rows jobs old → SomeHaveFailed rows e (engine_in m)
+ends_failed jobs old m js b none f h e rows out =
     let a = h e rows out in
     let same : engine_in m ≡ a.0 = home_all a.0 rows m (subst (λ z. AreOut a.0 rows z m) (none_left js none) a.1.0) in
-    subst (SomeWereTried rows e) (sym same) (as_tried rows b e a.0 a.1.1)
+    subst (SomeHaveFailed rows e) (sym same) (subst (λ z. HaveComeHome rows z e a.0) f a.1.1)
 
 -- WHAT IS ASKED of each that is lent: its query is there
 pub lends_within : (old s : State) (js : List Job) (k : ℕ) (d : Job) → k < length js → ArePartlyLent old js k s → (get_or js k d).query < length s.remains.items

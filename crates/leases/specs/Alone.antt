@@ -15,8 +15,8 @@ use Rattle.laws_engine.specs.Bounds.{HaveFewClosed}
 use Rattle.laws_engine.specs.Engines.{GoodEngine, PlainEngine, Running, next_of, query_at}
 use Rattle.laws_engine.specs.Engines.{remains_at}
 use Rattle.leases.specs.declared.reach.Reach.{Reach}
+use Rattle.leases.specs.declared.state.jobs.Quota.{Quota}
 use Rattle.leases.specs.declared.state.jobs.Ran.{Ran}
-use Rattle.leases.specs.declared.state.jobs.TheConstants.{MOST_TURNS}
 
 -- A STEP OF A QUERY: one of its operators takes what stands first on a
 -- side; or all pass the instants below one at which they have nothing to do
@@ -85,14 +85,14 @@ pub record HasBrokenOwn (streams : List Stream) (rows : ℕ) (p p2 : PlainQuery)
 abbrev pub HasStoppedOwn : Refused → List Stream → ℕ → PlainQuery → PlainQuery → Type 0
 HasStoppedOwn r streams rows p p2 = Stops r (p2 ≡ p) (HasBrokenOwn streams rows p p2)
 
--- IT HAS RUN BY ITSELF: steps of its own, each with a number; where memory ran out
--- within one more, only its answers are as they were, and they reach so far
-pub record HasRunAlone (streams : List Stream) (q : Registered) (rows : ℕ) (p : PlainQuery)
+-- IT HAS RUN BY ITSELF: steps of its own, each with a number, at most as many as it may; where
+-- memory ran out within one more, only its answers are as they were, and they reach so far
+pub record HasRunAlone (streams : List Stream) (q : Registered) (quota : Quota) (p : PlainQuery)
     (ran : Ran) (p2 : PlainQuery) : Type 0 where
   pub steps : List OwnStep
   pub after : PlainQuery
-  pub run : HaveRunOwn streams rows p steps after
-  pub few : ran.turns ≤ MOST_TURNS
+  pub run : HaveRunOwn streams quota.rows p steps after
+  pub few : ran.turns ≤ quota.turns
   pub end : MatchOption ran.broke ((ran.turns ≡ length steps) × (p2 ≡ after))
-      (λ reach. (ran.turns ≡ length steps + 1) × HasFailedOwn streams rows after
+      (λ reach. (ran.turns ≡ length steps + 1) × HasFailedOwn streams quota.rows after
       × (reach.next ≡ next_of q after) × (p2.answers ≡ after.answers))

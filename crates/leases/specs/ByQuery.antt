@@ -1,5 +1,6 @@
 -- A drain that takes query by query: turns of any operators that might be leased.
-use Rattle.std.specs.Prelude.{ℕ, ⊤, ◌≡◌, ◌⊎◌, true, false, Bool, min, None, Some, List, [], ◌∷◌}
+use Rattle.std.specs.Prelude.{ℕ, ⊤, ◌≡◌, ◌⊎◌, ◌||◌, true, false, Bool, min, None, Some, List, []}
+use Rattle.std.specs.Prelude.{◌∷◌}
 use Rattle.std.specs.Prelude.{Result, Ok, Err}
 use Rattle.std.specs.List.{AllByRecursion}
 use Rattle.op_queue.specs.Items.{entries_of}
@@ -15,7 +16,7 @@ use Rattle.laws_engine.specs.Engines.{Lease, PlainEngine}
 use Rattle.laws_engine.specs.Histories.{Breaks, Finishes, IsCallStep}
 use Rattle.laws_engine.specs.Orders.{IsReady}
 use Rattle.laws_engine.specs.Passing.{HasPassed}
-use Rattle.leases.specs.Turns.{HasReady, IsFull}
+use Rattle.leases.specs.Turns.{HasReady, IsFull, lease_fault}
 
 -- A TURN THAT MIGHT GO OUT goes out: of any operator that has something to take and of which no
 -- turn is out, with what comes out at once of what waits there, at most so many rows
@@ -54,13 +55,24 @@ HaveRunAny rows old [] new = new ≡ old
 HaveRunAny rows old (s ∷ steps) new =
     (mid : PlainEngine) × (IsAnyStep rows old s mid × HaveRunAny rows mid steps new)
 
--- some were done, whether or not some failed; or none of them failed
-abbrev pub SomeWereTried : ℕ → PlainEngine → PlainEngine → Type 0
-SomeWereTried rows old new = (steps : List AnyStep) × HaveRunAny rows old steps new
-
+-- some were done, and none of them failed
 abbrev pub SomeWereDone : ℕ → PlainEngine → PlainEngine → Type 0
 SomeWereDone rows old new = (steps : List AnyStep)
     × (HaveRunAny rows old steps new × AllByRecursion (λ s. has_failed s ≡ false) steps)
+
+-- or one or more of them did
+abbrev pub one_has_failed : List AnyStep → Bool
+one_has_failed [] = false
+one_has_failed (s ∷ steps) = has_failed s || one_has_failed steps
+
+abbrev pub SomeHaveFailed : ℕ → PlainEngine → PlainEngine → Type 0
+SomeHaveFailed rows old new = (steps : List AnyStep)
+    × (HaveRunAny rows old steps new × (one_has_failed steps ≡ true))
+
+-- MEMORY RAN OUT: a step failed; or some were done, and then one that might go out did nothing
+abbrev pub HasRunOut : ℕ → PlainEngine → PlainEngine → Type 0
+HasRunOut rows old new = SomeHaveFailed rows old new
+    ⊎ (SomeWereDone rows old new × (lease_fault new rows ≡ None) × HasReady new)
 
 -- A DRAIN by turns of at most so many rows: some were done; or it was refused where that number is
 -- out of range; or it ended where an operator may be leased and as many turns are out as may be, or
@@ -71,10 +83,10 @@ RunsByQuery old rows (Err BadLimit) new = (drain_fault rows ≡ Some BadLimit) �
 RunsByQuery old rows (Err TooManyLeases) new =
     (drain_fault rows ≡ None) × (SomeWereDone rows old new × IsFull new × HasReady new)
 RunsByQuery old rows (Err OutOfMemory) new =
-    (drain_fault rows ≡ None) × SomeWereTried rows old new
+    (drain_fault rows ≡ None) × HasRunOut rows old new
 RunsByQuery old rows (Err fault) new = ⊥
 
--- A QUERY CAME HOME: none of its steps failed, or the last one did
+-- A QUERY CAME HOME: none of its steps failed, or one did
 abbrev pub HaveComeHome : ℕ → Bool → PlainEngine → PlainEngine → Type 0
 HaveComeHome rows true old new = SomeWereDone rows old new
-HaveComeHome rows false old new = SomeWereTried rows old new
+HaveComeHome rows false old new = SomeHaveFailed rows old new

@@ -19,6 +19,7 @@ use Rattle.leases.specs.declared.limits.TheConstants.{LEASE_NUMBERS}
 use Rattle.leases.specs.declared.registered.Registration.{Registration}
 use Rattle.leases.specs.declared.state.State.{State}
 use Rattle.leases.specs.declared.state.jobs.Job.{Job}
+use Rattle.leases.specs.declared.state.jobs.Quota.{Quota}
 use Rattle.leases.specs.declared.state.jobs.TheConstants.{MOST_TURNS}
 
 -- A JOB THAT MAY RUN: its query runs, and may run by itself
@@ -28,6 +29,11 @@ pub record MayRunJob (streams : List Stream) (all : List Registration) (j : Job)
   pub plain : PlainQuery
   pub running : remains_of j.remains ≡ Running plain
   pub may : MayRunAlone streams (query_of query) plain
+
+-- WHAT IT MAY DO: turns of some rows, and not more of them than numbers are kept for
+pub record IsQuota (quota : Quota) : Type 0 where
+  pub some : 0 < quota.rows
+  pub few : quota.turns ≤ MOST_TURNS
 
 -- A JOB IS DONE: its query has run by itself, or broke
 pub record IsDoneJob (streams : List Stream) (q : Registered) (rows : ℕ) (p : PlainQuery)
@@ -40,23 +46,28 @@ pub record IsDoneJob (streams : List Stream) (q : Registered) (rows : ℕ) (p : 
       ⊎ ((remains_of j.remains ≡ Broken after.answers (next_of q after))
       × (j.turns ≡ length steps + 1) × HasFailedOwn streams rows after)
 
-pub record HasRunJob (streams : List Stream) (all : List Registration) (rows : ℕ)
+pub record HasRunJob (streams : List Stream) (all : List Registration) (quota : Quota)
     (j j2 : Job) : Type 0 where
   pub query : j2.query ≡ j.query
   pub slots : j2.slots.items ≡ j.slots.items
+  pub most : j2.turns ≤ quota.turns
   pub done : (q : Registration) (p : PlainQuery) → slice_get all j.query ≡ Some q
-      → remains_of j.remains ≡ Running p → IsDoneJob streams (query_of q) rows p j2
+      → remains_of j.remains ≡ Running p → IsDoneJob streams (query_of q) quota.rows p j2
 
 -- the same of each of a list
 abbrev pub MayRunJobs : List Stream → List Registration → List Job → Type 0
 MayRunJobs streams all js = (i : ℕ) (j : Job) → i < length js → j ≡ slice_index_or js i j
     → MayRunJob streams all j
 
-pub record HaveRunJobs (streams : List Stream) (all : List Registration) (rows : ℕ)
+pub record HaveRunJobs (streams : List Stream) (all : List Registration) (quota : Quota)
     (js js2 : List Job) : Type 0 where
   pub many : length js2 ≡ length js
   pub each : (i : ℕ) (d : Job) → i < length js
-      → HasRunJob streams all rows (slice_index_or js i d) (slice_index_or js2 i d)
+      → HasRunJob streams all quota (slice_index_or js i d) (slice_index_or js2 i d)
+
+-- none took more numbers than that
+abbrev pub HaveFewTurns : ℕ → List Job → Type 0
+HaveFewTurns n js = AllByRecursion (λ j. j.turns ≤ n) js
 
 -- no two are of one query
 abbrev pub HaveOwnQueries : List Job → Type 0

@@ -34,6 +34,8 @@ pub struct Connection<'a, R> {
     /// Says after how many values in its history the hub forgets, as `Locked::is_due` counts them.
     /// At 0 it forgets only if a request asks.
     pub forget: u64,
+    /// Limits the threads of a drain of `serve`, with its own.
+    threads: usize,
     /// Says whether a seat differed from the history when it settled.
     has_differed: AtomicBool,
     /// Is rung when a seat differs, if there is one.
@@ -41,7 +43,8 @@ pub struct Connection<'a, R> {
 }
 
 impl<'a, R> Connection<'a, R> {
-    /// Makes one. Receipts that differ from the history stay in the seat for `close`.
+    /// Makes one whose `serve` drains in its own thread. Receipts that differ from the history stay
+    /// in the seat for `close`.
     pub fn new(rt: &'a R, alloc: Global, hub: &'a Hub, rows: u32, forget: u64) -> Connection<'a, R>
         ensures rows { result.rows ≡ rows }
         ensures forget { result.forget ≡ forget }
@@ -52,19 +55,21 @@ impl<'a, R> Connection<'a, R> {
             hub,
             rows,
             forget,
+            threads: 1,
             has_differed: AtomicBool::new(false),
             alarm: None,
         }
     }
 
-    /// Makes one that rings an alarm when a seat differs from the history. It does so at once: a
-    /// forget may take what showed it.
+    /// Makes one whose `serve` drains in at most so many threads if they pay. It rings an alarm when
+    /// a seat differs from the history. It does so at once: a forget may take what showed it.
     pub(crate) fn watched(
         rt: &'a R,
         alloc: Global,
         hub: &'a Hub,
         rows: u32,
         forget: u64,
+        threads: usize,
         alarm: &'a Alarm,
     ) -> Connection<'a, R>
         ensures rows { result.rows ≡ rows }
@@ -76,6 +81,7 @@ impl<'a, R> Connection<'a, R> {
             hub,
             rows,
             forget,
+            threads,
             has_differed: AtomicBool::new(false),
             alarm: Some(alarm),
         }
@@ -176,6 +182,7 @@ impl<R: Threads + Wait + Sync> Connection<'_, R> {
             rt,
             alloc: self.alloc,
             rows: self.rows,
+            threads: self.threads,
         };
         let connection = Client {
             rt,

@@ -16,6 +16,8 @@ pub(crate) struct Door {
     pub(crate) idle: Option<u32>,
     /// Says after how many values in its history the hub forgets. At 0 it never does by itself.
     pub(crate) forget: u64,
+    /// Limits the threads of a client's drain.
+    pub(crate) threads: usize,
 }
 
 impl Door {
@@ -25,12 +27,14 @@ impl Door {
         left: Option<u64>,
         idle: Option<u32>,
         forget: u64,
+        threads: usize,
     ) -> Door
         ensures { result ≡ record {
           listener = listener;
           left = left;
           idle = idle;
           forget = forget;
+          threads = threads;
         } }
     {
         Door {
@@ -38,6 +42,7 @@ impl Door {
             left,
             idle,
             forget,
+            threads,
         }
     }
 

@@ -1,5 +1,5 @@
 //! Drains the hub: says which threads run the turns.
-ghost use Rattle.std.specs.Prelude.{⊤, IfSome, OnOk};
+ghost use Rattle.std.specs.Prelude.{IfSome, OnOk};
 ghost use Rattle.reference.specs.World.{IsTurnSize};
 ghost use Rattle.wire.specs.Printed.{Answer, answer_of};
 ghost use Rattle.served.specs.Crossing.{IsShared};
@@ -14,11 +14,11 @@ use std::thread::Threads;
 use wire::{Reply, done};
 use workers::{MAX_WORKERS, NoGate, Pool, bring_back};
 
-/// Limits the turns that a drain runs under one taking of the lock.
+/// Says after how many turns a drain goes query by query.
 const TURNS: u64 = 64;
 
-/// Says how often a drain takes the lock before it wakes workers that may help.
-const STEPS_ALONE: u32 = 16;
+/// Limits the turns that a drain then runs under one taking of the lock.
+const TURNS_BY_QUERY: u64 = 1_024;
 
 /// Runs the turns of a drain.
 pub(crate) trait Drainer {
@@ -61,59 +61,49 @@ impl<R: Threads + Wait + Sync> Drainer for PoolDrainer<'_, R> {
     }
 }
 
-/// Drains by the client's own thread, until no turn is left. Turns of other threads may still be
-/// out then.
+/// Drains by the client's own thread, until no turn is left. A long drain has more threads, at most
+/// `threads` in all, if they pay. Turns of other threads may still be out at the end.
 #[derive(Drop)]
 pub(crate) struct OwnDrainer<'a, R> {
     pub(crate) rt: &'a R,
     pub(crate) alloc: Global,
     pub(crate) rows: u32,
+    pub(crate) threads: usize,
     ghost turn: { IsTurnSize rows },
 }
 
-impl<R: Wait> Drainer for OwnDrainer<'_, R> {
-    ghost may_start = { λ _. ⊤ };
+impl<R: Threads + Wait + Sync> Drainer for OwnDrainer<'_, R> {
+    ghost may_start = { λ _. IsShared R.row.shr_at };
 
     ghost drains = { λ d. ClientDrains d.rows };
 
     fn drain(&self, hub: &Hub) -> Reply {
-        run_turns(self.rt, self.alloc, hub, self.rows)
+        run_turns(self.rt, self.alloc, hub, self.rows, self.threads)
     }
 }
 
-// Runs turns in place, at most `TURNS` under one taking of the lock, so that other clients are
-// answered in between. Ends when nothing is ready. Only a long drain wakes workers.
-fn drain_in_place<R: Wait>(rt: &R, hub: &Hub, rows: u32) -> Result<(), Fault>
+// Runs turns in place until nothing is ready, some under one taking of the lock, so that other
+// clients are answered in between. A short drain goes turn by turn, and looks at no idle query. A
+// long one goes query by query from some point on, in at most so many threads if they pay.
+fn drain_in_place<R: Threads + Wait + Sync>(
+    rt: &R,
+    hub: &Hub,
+    rows: u32,
+    threads: usize,
+) -> Result<(), Fault>
     ensures { OnOk result (WasIdle rows) }
 {
-    for _ in 0..STEPS_ALONE {
-        match hub.drain_some_alone(rt, rows, TURNS) {
-            Ok(true) => {}
-            Ok(false) => return Ok(()),
-            Err(fault) => return Err(fault),
-        }
+    if !hub.drain_some_alone(rt, rows, TURNS)? {
+        return Ok(());
     }
     for _ in rt.forever() {
-        match hub.drain_some(rt, rows, TURNS) {
+        match hub.drain_some_by_query(rt, rows, TURNS_BY_QUERY, threads) {
             Ok(true) => {}
             Ok(false) => return Ok(()),
             Err(fault) => return Err(fault),
         }
     }
     unreachable!()
-}
-
-// Runs turns in place, under the lock: turn by turn, or query by query in so many threads.
-fn drain_by<R: Threads + Wait + Sync>(
-    rt: &R,
-    hub: &Hub,
-    workers: u64,
-    rows: u32,
-) -> Result<(), Fault> {
-    if workers < 2 {
-        return drain_in_place(rt, hub, rows);
-    }
-    hub.drain_by_query(rt, rows, workers as usize)
 }
 
 // Runs turns in place, under the lock: a turn costs less there than in another thread. Returns the
@@ -131,7 +121,7 @@ fn run_in_place<R: Threads + Wait + Sync>(
     if workers == 0 || workers > MAX_WORKERS {
         return None;
     }
-    if let Err(Fault::OutOfMemory) = drain_by(rt, hub, workers, rows) {
+    if let Err(Fault::OutOfMemory) = hub.drain_by_query(rt, rows, workers as usize) {
         return Some(Reply::Refused(Fault::OutOfMemory));
     }
     match hub.lease_or_rest(rt, rows) {
@@ -148,11 +138,17 @@ fn run_in_place<R: Threads + Wait + Sync>(
 
 // Runs turns in place, under the lock, and then those that are ready by now, until nothing is. A
 // turn of a query that was dropped meanwhile is gone.
-fn run_turns<R: Wait>(rt: &R, alloc: Global, hub: &Hub, rows: u32) -> Reply
+fn run_turns<R: Threads + Wait + Sync>(
+    rt: &R,
+    alloc: Global,
+    hub: &Hub,
+    rows: u32,
+    threads: usize,
+) -> Reply
     requires { IsTurnSize rows }
     ensures { ClientDrains rows (answer_of result) }
 {
-    match drain_in_place(rt, hub, rows) {
+    match drain_in_place(rt, hub, rows, threads) {
         Ok(()) => return Reply::Done,
         Err(Fault::OutOfMemory) => return Reply::Refused(Fault::OutOfMemory),
         Err(_) => {}

@@ -108,7 +108,12 @@ pub fn serve_connection<R: Threads + Wait + Sync, S: Source, K: Sink>(
     ensures memory { IfErr result (λ e. e ≡ ScriptFault.Memory
         → (source.new ≡ source.old) × (sink.new ≡ sink.old) × (seat.new ≡ seat.old)) }
 {
-    let drainer = OwnDrainer { rt, alloc, rows };
+    let drainer = OwnDrainer {
+        rt,
+        alloc,
+        rows,
+        threads: 1,
+    };
     let connection = Client {
         rt,
         hub,

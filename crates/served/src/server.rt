@@ -83,7 +83,8 @@ pub fn serve_hub<R: Threads + Wait + Sync, O: Sink, E: Sink>(
         return lack_memory(errors);
     }
     let left = options.serve.map(|connections| connections as u64);
-    let door = Mutex::new(Door::new(listener, left, options.idle, options.forget));
+    let threads = options.workers as usize;
+    let door = Mutex::new(Door::new(listener, left, options.idle, options.forget, threads));
     let Ok(room) = Room::new(alloc, seats.len()) else {
         return lack_memory(errors);
     };
@@ -210,9 +211,10 @@ fn run_threads<R: Threads + Wait + Sync, D: Duty + Drop>(
                 seats: mut back,
             } = room;
             let mut held = door.lock(rt);
+            let threads = workers as usize;
             for _ in 0..workers {
                 if scope
-                    .spawn(move || help(rt, alloc, hub, &NoGate, ROWS))
+                    .spawn(move || help(rt, alloc, hub, &NoGate, ROWS, threads))
                     .is_err()
                 {
                     lack_thread(rt, &mut held, alarm);
@@ -270,6 +272,7 @@ fn client<R: Threads + Wait + Sync>(
         let accepted = held.accept();
         let idle = held.idle;
         let forget = held.forget;
+        let threads = held.threads;
         drop(held);
         let Some(stream) = admitted(rt, alarm, accepted) else {
             break;
@@ -277,7 +280,7 @@ fn client<R: Threads + Wait + Sync>(
         if prepare(&stream, idle).is_err() {
             continue;
         }
-        let connection = Connection::watched(rt, alloc, hub, ROWS, forget, alarm);
+        let connection = Connection::watched(rt, alloc, hub, ROWS, forget, threads, alarm);
         let mut source = ReaderSource::new(&stream);
         let mut sink = WriterSink::new(&stream);
         let _ = connection.serve(&mut source, &mut sink, &mut seat);

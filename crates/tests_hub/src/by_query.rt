@@ -7,7 +7,10 @@ use reference::{Fault, NewRows};
 use std::alloc::Global;
 use std::sync::Wait;
 use std::test::Fail;
+use std::thread;
 use std::thread::Threads;
+use std::time::{Clock, Duration};
+use workers::{NoGate, help};
 
 /// Is what each query asks: all kinds of windows and operators, over ten windows in all.
 const QUERIES: [&str; 8] = [
@@ -23,6 +26,9 @@ const QUERIES: [&str; 8] = [
 
 /// Limits the rows of a take.
 const LIMIT: i64 = 4_096;
+
+/// Limits how often a client looks, with a millisecond of sleep each time.
+const LOOKS: u32 = 10_000;
 
 /// Counts more turns than any drain here has.
 const MANY: u64 = 1_000_000;
@@ -107,6 +113,114 @@ fn drains_by_query_answer_as_drains(rt: HostRuntime) -> Result<(), Fail> {
             "turns of {rows} rows in {threads} threads"
         );
     }
+    Ok(())
+}
+
+/// Drains by steps of at most so many turns. Returns how many steps there were, or `None` if one of
+/// them said something else than a look at what is ready.
+fn steps_of<R: Threads + Wait + Sync>(
+    rt: &R,
+    hub: &Hub,
+    rows: u32,
+    turns: u64,
+    threads: usize,
+) -> Result<Option<u64>, Fault> {
+    let mut steps: u64 = 0;
+    for _ in 0..MANY {
+        let more = hub.drain_some_by_query(rt, rows, turns, threads)?;
+        steps = steps.saturating_add(1);
+        if more != hub.has_ready(rt) {
+            return Ok(None);
+        }
+        if !more {
+            break;
+        }
+    }
+    Ok(Some(steps))
+}
+
+/// Returns whether the steps of two drains answer as two drains turn by turn. There are several
+/// steps only if the turns are few.
+fn steps_answer_alike<R: Threads + Wait + Sync>(
+    rt: &R,
+    alloc: Global,
+    rows: u32,
+    turns: u64,
+    threads: usize,
+) -> Result<bool, Fault> {
+    let (one, mut first) = queried(rt, alloc)?;
+    let (other, mut second) = queried(rt, alloc)?;
+    for start in [0, 300] {
+        fill(rt, alloc, &one, &mut first, start)?;
+        fill(rt, alloc, &other, &mut second, start)?;
+        one.drain_some(rt, rows, MANY)?;
+        let steps = steps_of(rt, &other, rows, turns, threads)?;
+        if steps.is_none_or(|count| (count > 1) != (turns < MANY)) {
+            return Ok(false);
+        }
+        if !are_same(rt, &one, &mut first, &other, &mut second)? {
+            return Ok(false);
+        }
+    }
+    Ok(true)
+}
+
+#[test]
+fn steps_by_query_answer_as_drains(rt: HostRuntime) -> Result<(), Fail> {
+    for (rows, turns, threads) in [(256, 1, 4), (256, 100, 1), (7, 100, 4), (256, MANY, 4)] {
+        assert!(rt;
+            steps_answer_alike(&rt, rt.alloc(), rows, turns, threads)?,
+            "{turns} turns of {rows} rows in {threads} threads"
+        );
+    }
+    Ok(())
+}
+
+/// Looks until as many answers wait at the first query as at the other hub's, or the last look. Then
+/// calls the end.
+fn end_when_answered<R: Wait + Clock>(rt: &R, hub: &Hub, count: usize) {
+    for _ in 0..LOOKS {
+        if hub.waiting(rt, 0) == Ok(count) && !hub.has_ready(rt) {
+            break;
+        }
+        thread::sleep(rt, Duration::from_millis(1));
+    }
+    hub.end(rt);
+}
+
+/// Has a helper drain the hub in at most four threads, until so many answers wait at the first
+/// query.
+fn drain_by_helper<R: Threads + Wait + Clock + Sync>(
+    rt: &R,
+    alloc: Global,
+    hub: &Hub,
+    count: usize,
+) {
+    let ((), ()) = thread::join(
+        rt,
+        move || end_when_answered(rt, hub, count),
+        move || help(rt, alloc, hub, &NoGate, 256, 4),
+    );
+}
+
+/// Returns whether a helper that takes query by query answers as a drain turn by turn.
+fn helper_answers_alike<R: Threads + Wait + Clock + Sync>(
+    rt: &R,
+    alloc: Global,
+) -> Result<bool, Fault> {
+    let (one, mut first) = queried(rt, alloc)?;
+    let (other, mut second) = queried(rt, alloc)?;
+    fill(rt, alloc, &one, &mut first, 0)?;
+    fill(rt, alloc, &other, &mut second, 0)?;
+    one.drain_some(rt, 256, MANY)?;
+    let count = one.waiting(rt, 0)?;
+    drain_by_helper(rt, alloc, &other, count);
+    are_same(rt, &one, &mut first, &other, &mut second)
+}
+
+#[test]
+fn a_helper_takes_query_by_query(rt: HostRuntime) -> Result<(), Fail> {
+    assert!(rt; helper_answers_alike(&rt, rt.alloc())?);
     Ok(())
 }
 

@@ -7,6 +7,7 @@ use reference::Fault;
 use std::alloc::Global;
 use std::sync::Wait;
 use std::test::Fail;
+use std::thread::Threads;
 
 /// Says which call is made.
 #[derive(Clone, Copy, Debug)]
@@ -20,6 +21,7 @@ enum Call {
     Drain,
     DrainSome,
     DrainSomeAlone,
+    DrainSomeByQuery,
     Forget,
     ForgetIfDue,
     Abandon,
@@ -30,7 +32,7 @@ enum Call {
 }
 
 /// Lists the calls that count.
-const CHANGES: [Call; 11] = [
+const CHANGES: [Call; 12] = [
     Call::Heartbeat,
     Call::HeartbeatNamed,
     Call::Drop,
@@ -40,6 +42,7 @@ const CHANGES: [Call; 11] = [
     Call::Drain,
     Call::DrainSome,
     Call::DrainSomeAlone,
+    Call::DrainSomeByQuery,
     Call::Forget,
     Call::ForgetIfDue,
 ];
@@ -67,7 +70,7 @@ fn run_a_turn<R: Wait>(rt: &R, alloc: Global, hub: &Hub, finishes: bool) -> Resu
 }
 
 // Makes the call. Returns whether it did what it is for, or was refused if it is to be.
-fn make<R: Wait>(
+fn make<R: Threads + Wait + Sync>(
     rt: &R,
     alloc: Global,
     hub: &Hub,
@@ -84,6 +87,7 @@ fn make<R: Wait>(
         Call::Drain => Ok(hub.drain(rt, 256).is_ok()),
         Call::DrainSome => hub.drain_some(rt, 256, 1),
         Call::DrainSomeAlone => hub.drain_some_alone(rt, 256, 1),
+        Call::DrainSomeByQuery => hub.drain_some_by_query(rt, 256, 1, 4),
         Call::Forget => Ok(hub.forget(rt).is_ok()),
         Call::ForgetIfDue => hub.forget_if_due(rt, 1),
         Call::Abandon => run_a_turn(rt, alloc, hub, false),
@@ -99,7 +103,11 @@ fn make<R: Wait>(
 
 // Makes the call, and then a heartbeat, after which an operator is ready. Returns how many changes
 // both were, or `None` if the call did not do what it is for.
-fn changes_by<R: Wait>(rt: &R, alloc: Global, call: Call) -> Result<Option<u64>, Fault> {
+fn changes_by<R: Threads + Wait + Sync>(
+    rt: &R,
+    alloc: Global,
+    call: Call,
+) -> Result<Option<u64>, Fault> {
     let (hub, mut seat) = ready(rt, alloc, 5)?;
     register(rt, alloc, &hub, &mut seat, "p", None)?;
     let before = hub.wait_ready(rt).ok_or(Fault::UnknownLease)?;

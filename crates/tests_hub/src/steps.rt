@@ -19,6 +19,20 @@ const LOOKS: u32 = 10_000;
 /// Counts the milliseconds after which a helper waits, most likely.
 const REST: u64 = 50;
 
+/// Says by which call some turns are drained.
+#[derive(Clone, Copy, Debug)]
+enum Drains {
+    /// Wakes whoever may help.
+    Waking,
+    /// Leaves the rest to its caller.
+    Alone,
+    /// Takes query by query, and leaves the rest to its caller.
+    ByQuery,
+}
+
+/// Lists these calls.
+const DRAINS: [Drains; 3] = [Drains::Waking, Drains::Alone, Drains::ByQuery];
+
 // Lists what drains of so many turns answer, one after the other, of a query with three operators,
 // a row and a tick: six turns in all.
 const STEPS: [(&[u64], &[bool]); 6] = [
@@ -30,25 +44,32 @@ const STEPS: [(&[u64], &[bool]); 6] = [
     (&[6, 0], &[false, false]),
 ];
 
-// Drains so many turns. The drain wakes whoever may help, or leaves the rest to its caller.
-fn drain_some<R: Wait>(rt: &R, hub: &Hub, turns: u64, wakes: bool) -> Result<bool, Fault> {
-    if wakes {
-        return hub.drain_some(rt, 256, turns);
+// Drains so many turns of at most so many rows.
+fn drain_some<R: Threads + Wait + Sync>(
+    rt: &R,
+    hub: &Hub,
+    rows: u32,
+    turns: u64,
+    by: Drains,
+) -> Result<bool, Fault> {
+    match by {
+        Drains::Waking => hub.drain_some(rt, rows, turns),
+        Drains::Alone => hub.drain_some_alone(rt, rows, turns),
+        Drains::ByQuery => hub.drain_some_by_query(rt, rows, turns, 4),
     }
-    hub.drain_some_alone(rt, 256, turns)
 }
 
 // Returns whether drains of so many turns answer so, and a look says the same after each.
-fn are_steps_so<R: Wait>(
+fn are_steps_so<R: Threads + Wait + Sync>(
     rt: &R,
     alloc: Global,
     turns: &[u64],
     answers: &[bool],
-    wakes: bool,
+    by: Drains,
 ) -> Result<bool, Fault> {
     let (hub, _seat) = ready(rt, alloc, 5)?;
     for (count, more) in turns.iter().zip(answers.iter()) {
-        let answer = drain_some(rt, &hub, *count, wakes)?;
+        let answer = drain_some(rt, &hub, 256, *count, by)?;
         if answer != *more || hub.has_ready(rt) != *more {
             return Ok(false);
         }
@@ -59,24 +80,36 @@ fn are_steps_so<R: Wait>(
 #[test]
 fn a_drain_in_steps_says_whether_more_is_ready(rt: HostRuntime) -> Result<(), Fail> {
     for (turns, answers) in &STEPS {
-        assert!(rt; are_steps_so(&rt, rt.alloc(), turns, answers, true)?);
-        assert!(rt; are_steps_so(&rt, rt.alloc(), turns, answers, false)?);
+        for by in DRAINS {
+            assert!(rt;
+                are_steps_so(&rt, rt.alloc(), turns, answers, by)?,
+                "drains of {turns:?} turns, {by:?}"
+            );
+        }
     }
     Ok(())
 }
 
 // Returns what a drain of one turn answers for turns of no row, and for those of one row too many.
-fn refused<R: Wait>(rt: &R, alloc: Global) -> Result<[Option<Fault>; 2], Fault> {
+fn refused<R: Threads + Wait + Sync>(
+    rt: &R,
+    alloc: Global,
+    by: Drains,
+) -> Result<[Option<Fault>; 2], Fault> {
     let (hub, _seat) = ready(rt, alloc, 5)?;
-    Ok([
-        hub.drain_some(rt, 0, 1).err(),
-        hub.drain_some(rt, 1_025, 1).err(),
-    ])
+    let none = drain_some(rt, &hub, 0, 1, by).err();
+    let many = drain_some(rt, &hub, 1_025, 1, by).err();
+    Ok([none, many])
 }
 
 #[test]
 fn a_drain_in_steps_limits_rows(rt: HostRuntime) -> Result<(), Fail> {
-    assert!(rt; refused(&rt, rt.alloc())? == [Some(Fault::BadLimit), Some(Fault::BadLimit)]);
+    for by in DRAINS {
+        assert!(rt;
+            refused(&rt, rt.alloc(), by)? == [Some(Fault::BadLimit), Some(Fault::BadLimit)],
+            "{by:?}"
+        );
+    }
     Ok(())
 }
 
@@ -111,7 +144,7 @@ fn answers_by_helper<R: Threads + Wait + Clock + Sync>(
     let (is_answered, ()) = thread::join(
         rt,
         move || close_an_instant(rt, hub, seat),
-        move || help(rt, alloc, hub, &NoGate, 256),
+        move || help(rt, alloc, hub, &NoGate, 256, 4),
     );
     is_answered
 }
@@ -157,7 +190,7 @@ fn rest_by_helper<R: Threads + Wait + Clock + Sync>(
     let (waiting, ()) = thread::join(
         rt,
         move || rest_comes(rt, hub),
-        move || help(rt, alloc, hub, &NoGate, 1),
+        move || help(rt, alloc, hub, &NoGate, 1, 4),
     );
     waiting
 }
@@ -216,7 +249,7 @@ fn place_by_helper<R: Threads + Wait + Clock + Sync>(
     let (is_answered, ()) = thread::join(
         rt,
         move || make_place(rt, hub, seat),
-        move || help(rt, alloc, hub, &NoGate, 256),
+        move || help(rt, alloc, hub, &NoGate, 256, 4),
     );
     is_answered
 }

@@ -52,10 +52,12 @@ enum Way {
     QuietSettle,
     /// Drains one turn, leaves work to the caller, and wakes nobody.
     QuietDrain,
+    /// Does so by a drain that takes query by query.
+    QuietDrainByQuery,
 }
 
 // Closes the instant this way.
-fn close<R: Wait>(rt: &R, hub: &Hub, seat: &mut Seat, way: Way) {
+fn close<R: Threads + Wait + Sync>(rt: &R, hub: &Hub, seat: &mut Seat, way: Way) {
     if let Way::Heartbeat = way {
         let _ = hub.heartbeat(rt, seat, 0, 0);
         return;
@@ -78,13 +80,16 @@ fn close<R: Wait>(rt: &R, hub: &Hub, seat: &mut Seat, way: Way) {
         Way::QuietDrain => {
             let _ = hub.drain_some_alone(rt, 256, 1);
         }
+        Way::QuietDrainByQuery => {
+            let _ = hub.drain_some_by_query(rt, 256, 1, 4);
+        }
         Way::Heartbeat | Way::Nothing => {}
     }
 }
 
 // Closes the instant this way once the worker waits. Returns whether an answer came before the last
 // look. Then calls the end.
-fn close_an_instant<R: Wait + Clock>(
+fn close_an_instant<R: Threads + Wait + Clock + Sync>(
     rt: &R,
     hub: &Hub,
     mut seat: Seat,
@@ -188,6 +193,7 @@ fn a_heartbeat_by_name_wakes_nobody(rt: HostRuntime) -> Result<(), Fail> {
     assert!(rt; lets_a_worker_sleep(&rt, rt.alloc(), Way::Nothing)?);
     assert!(rt; lets_a_worker_sleep(&rt, rt.alloc(), Way::QuietSettle)?);
     assert!(rt; lets_a_worker_sleep(&rt, rt.alloc(), Way::QuietDrain)?);
+    assert!(rt; lets_a_worker_sleep(&rt, rt.alloc(), Way::QuietDrainByQuery)?);
     Ok(())
 }
 

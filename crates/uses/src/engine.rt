@@ -18,6 +18,7 @@ pub(crate) fn show_calls<R: Print + Threads + Sync>(rt: &R, alloc: Global) -> Re
     a_drain_answers_the_same_by_any_turns(rt, alloc)?;
     a_drain_stops_after_some_turns(rt, alloc)?;
     a_drain_takes_query_by_query(rt, alloc)?;
+    a_drain_takes_some_turns_of_each_query(rt, alloc)?;
     a_gap_costs_few_turns(rt, alloc)?;
     a_take_returns_the_first_answers(rt, alloc)?;
     a_take_returns_a_flat_list(rt, alloc)?;
@@ -197,6 +198,26 @@ fn a_drain_takes_query_by_query<R: Print + Threads + Sync>(
     engine.drain_by_query(rt, 256, 4)?;
     let (q, p) = (engine.take(0, 100)?, engine.take(1, 100)?);
     println!(rt; "a_drain_takes_query_by_query: q {q:?}, p {p:?}")?;
+    Ok(())
+}
+
+/// Shows a drain of a few turns at a time that takes query by query.
+///
+/// One turn leaves work to do. Of a thousand turns each query may take half, which is enough for
+/// the rest. The answers are those of `drain`.
+fn a_drain_takes_some_turns_of_each_query<R: Print + Threads + Sync>(
+    rt: &R,
+    alloc: Global,
+) -> Result<(), Stop> {
+    let mut engine = engine_with(alloc, "Select Rstream(a) From S [Now] Where a > 3")?;
+    engine.query("p", NOW, None)?;
+    fill(alloc, &mut engine)?;
+    for turns in [1, 1_000] {
+        let more = engine.drain_some_by_query(rt, 256, turns, 4)?;
+        println!(rt; "a_drain_takes_some_turns_of_each_query: after {turns}, more {more}")?;
+    }
+    let (q, p) = (engine.take(0, 100)?, engine.take(1, 100)?);
+    println!(rt; "a_drain_takes_some_turns_of_each_query: q {q:?}, p {p:?}")?;
     Ok(())
 }
 

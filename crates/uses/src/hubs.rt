@@ -21,6 +21,7 @@ pub(crate) fn show_calls<R: Print + Threads + Wait + Sync>(
     a_hub_answers_two_seats(rt, alloc)?;
     an_opening_sets_limits(rt, alloc)?;
     a_drain_lets_others_in(rt, alloc)?;
+    a_hub_drains_in_threads(rt, alloc)?;
     calls_name_streams_and_queries(rt, alloc)?;
     a_burst_wakes_a_worker_once(rt, alloc)?;
     a_query_of_a_hub_is_dropped(rt, alloc)?;
@@ -29,7 +30,10 @@ pub(crate) fn show_calls<R: Print + Threads + Wait + Sync>(
 }
 
 /// Shows what workers of a hub call.
-pub(crate) fn show_turns<R: Print + Wait>(rt: &R, alloc: Global) -> Result<(), Stop> {
+pub(crate) fn show_turns<R: Print + Threads + Wait + Sync>(
+    rt: &R,
+    alloc: Global,
+) -> Result<(), Stop> {
     a_worker_runs_a_turn(rt, alloc)?;
     a_worker_gives_a_turn_up(rt, alloc)?;
     a_worker_runs_turns_to_rest(rt, alloc)?;
@@ -137,6 +141,23 @@ fn a_drain_lets_others_in<R: Print + Wait>(rt: &R, alloc: Global) -> Result<(), 
     Ok(())
 }
 
+/// Shows drains that take query by query, in at most four threads.
+///
+/// So few rows wait that no thread is started. The query has twelve turns, so five leave work to
+/// do. The second drain leaves none.
+fn a_hub_drains_in_threads<R: Print + Threads + Wait + Sync>(
+    rt: &R,
+    alloc: Global,
+) -> Result<(), Stop> {
+    let (hub, mut zero, _) = filled(rt, alloc)?;
+    let more = hub.drain_some_by_query(rt, 256, 5, 4)?;
+    hub.drain_by_query(rt, 256, 4)?;
+    let (taken, _) = hub.take(rt, &mut zero, 0, 100)?;
+    let answers = taken.to_rows(alloc)?;
+    println!(rt; "a_hub_drains_in_threads: more {more}, then {answers:?}")?;
+    Ok(())
+}
+
 /// Shows calls that name what they are for.
 ///
 /// Each looks the name up and does the rest under one taking of the lock. No query has the name r.
@@ -156,7 +177,7 @@ fn calls_name_streams_and_queries<R: Print + Wait>(rt: &R, alloc: Global) -> Res
 /// Shows calls that wake no worker, and one that does.
 ///
 /// The heartbeat wakes nobody, and the drain by five turns neither. Work is left, so `wake` then
-/// wakes one of those who wait for it.
+/// wakes those who wait for it.
 fn a_burst_wakes_a_worker_once<R: Print + Wait>(rt: &R, alloc: Global) -> Result<(), Stop> {
     let (hub, mut zero, _) = filled(rt, alloc)?;
     hub.heartbeat_named(rt, &mut zero, "S", 2)?;
@@ -309,10 +330,13 @@ fn a_worker_waits_for_a_change<R: Print + Wait>(rt: &R, alloc: Global) -> Result
 /// Shows a helper: a worker beside clients that drain.
 ///
 /// The end is called before it starts, so it runs no turn and returns.
-fn a_helper_runs_turns_until_the_end<R: Print + Wait>(rt: &R, alloc: Global) -> Result<(), Stop> {
+fn a_helper_runs_turns_until_the_end<R: Print + Threads + Wait + Sync>(
+    rt: &R,
+    alloc: Global,
+) -> Result<(), Stop> {
     let (hub, _, _) = filled(rt, alloc)?;
     hub.end(rt);
-    help(rt, alloc, &hub, &NoGate, 256);
+    help(rt, alloc, &hub, &NoGate, 256, 1);
     let waiting = hub.waiting(rt, 0)?;
     println!(rt; "a_helper_runs_turns_until_the_end: {waiting} wait")?;
     Ok(())

@@ -8,9 +8,13 @@ use hub::{Hub, Leased};
 use reference::Fault;
 use std::alloc::Global;
 use std::sync::Wait;
+use std::thread::Threads;
 
 /// Limits the turns that run in place before others may have the lock.
 const TURNS: u64 = 64;
+
+/// Limits the turns that run in place query by query before others may have the lock.
+const TURNS_BY_QUERY: u64 = 1_024;
 
 /// Limits the sizes that a turn is tried with: 1,024 rows, 512, and so on down to 1.
 const SIZES: u32 = 11;
@@ -30,20 +34,28 @@ enum Outcome {
 /// Runs turns of at most `rows` rows, until it sees that the hub's end was called. It is for a
 /// worker beside clients that drain.
 ///
-/// It drains in place, 64 turns at a time. If more is ready then, it leases turns, and goes on so
-/// while they are full: rows that fill a turn are worth a thread. The first of them that comes back
-/// wakes the other workers.
+/// It drains in place, 64 turns at a time. If more is ready then, it goes query by query, 1,024
+/// turns at a time, in at most `threads` threads if they pay. If still more is ready, it leases
+/// turns, and goes on so while they are full: rows that fill a turn are worth a thread. The first
+/// of them that comes back wakes the other workers.
 ///
 /// After it ran out of memory it tries a turn outside the lock, with half as many rows each time.
 /// If memory runs out for a single row, or as many turns are out as may be, it waits for a change
 /// that `Locked::changes` counts. Its own steps count, so it may try once more before it waits. A
 /// take and an abandoned turn do not count.
 ///
-/// Before it looks for the end again, it runs at most 64 turns in place and 64 outside the lock.
+/// Before it looks for the end again, it runs at most 1,088 turns in place and 64 outside the lock.
 /// Tries that ran out of memory come on top.
 ///
 /// Example: `a_helper_runs_turns_until_the_end` in crates/uses/src/hubs.rt.
-pub fn help<R: Wait, G: Gate>(rt: &R, alloc: Global, hub: &Hub, gate: &G, rows: u32)
+pub fn help<R: Threads + Wait + Sync, G: Gate>(
+    rt: &R,
+    alloc: Global,
+    hub: &Hub,
+    gate: &G,
+    rows: u32,
+    threads: usize,
+)
     requires { IsTurnSize rows }
     ensures { (old : PlainLocked) × (new : PlainLocked) × HasEnded old new }
 {
@@ -51,7 +63,7 @@ pub fn help<R: Wait, G: Gate>(rt: &R, alloc: Global, hub: &Hub, gate: &G, rows: 
         let Some(seen) = hub.wait_ready(rt) else {
             return;
         };
-        if !help_once(rt, alloc, hub, gate, rows) {
+        if !help_once(rt, alloc, hub, gate, rows, threads) {
             hub.wait_for_change(rt, seen);
         }
     }
@@ -59,13 +71,34 @@ pub fn help<R: Wait, G: Gate>(rt: &R, alloc: Global, hub: &Hub, gate: &G, rows: 
 }
 
 // Runs some turns. Returns `false` if it could not go on.
-fn help_once<R: Wait, G: Gate>(rt: &R, alloc: Global, hub: &Hub, gate: &G, rows: u32) -> bool {
-    match hub.drain_some_alone(rt, rows, TURNS) {
+fn help_once<R: Threads + Wait + Sync, G: Gate>(
+    rt: &R,
+    alloc: Global,
+    hub: &Hub,
+    gate: &G,
+    rows: u32,
+    threads: usize,
+) -> bool {
+    match run_in_place(rt, hub, rows, threads) {
         Ok(false) => true,
         Ok(true) => run_full_turns(rt, alloc, hub, gate, rows),
         Err(Fault::OutOfMemory) => run_smaller_turn(rt, alloc, hub, gate, rows),
         Err(_) => false,
     }
+}
+
+// Runs some turns in place, and many query by query if more is ready then. Returns whether more is
+// ready.
+fn run_in_place<R: Threads + Wait + Sync>(
+    rt: &R,
+    hub: &Hub,
+    rows: u32,
+    threads: usize,
+) -> Result<bool, Fault> {
+    if !hub.drain_some_alone(rt, rows, TURNS)? {
+        return Ok(false);
+    }
+    hub.drain_some_by_query(rt, rows, TURNS_BY_QUERY, threads)
 }
 
 // Runs turns outside the lock while they are full. Returns `false` if it could not go on.

@@ -1,8 +1,8 @@
 //! Answers what workers call. They need no seat.
 ghost use Rattle.std.specs.Prelude.{◌≡◌, IfErr, IfOk, MatchOption, Ok, false, ⊤};
 ghost use Rattle.leases.specs.declared.leased.Leased.TheVariants.{Idle};
-ghost use Rattle.hub.specs.Steps.{PlainLocked, Drains, DrainsSome, Ends, Forgets};
-ghost use Rattle.hub.specs.Steps.{ForgetsWhenDue, GivesUp, Hands, HasEnded, IsReady, Lends, Rests};
+ghost use Rattle.hub.specs.Steps.{PlainLocked, Drains, DrainsSome, DrainsSomeByQuery, Ends};
+ghost use Rattle.hub.specs.Steps.{Forgets, ForgetsWhenDue, GivesUp, Hands, HasEnded, IsReady, Lends, Rests};
 ghost use Rattle.hub.specs.Steps.{Withholds};
 ghost use Rattle.hub.specs.Tries.{MatchLeaseRest, MatchLeaseWait};
 
@@ -141,6 +141,40 @@ impl Hub {
         ran
     }
 
+    /// Drains some turns in place, under the lock, query by query: at most `turns` turns of at most
+    /// `rows` rows, in at most `threads` threads if they pay. They end before this returns. Returns
+    /// whether an operator may still take something. Call it until it answers `false`: other calls
+    /// get the lock in between.
+    ///
+    /// It is for much work, and looks at each query. It wakes nobody if more is ready: the caller
+    /// goes on. If it fails, it wakes all.
+    ///
+    /// # Errors
+    /// Those of `drain`. `TooManyLeases` only if an operator may take something and fewer than
+    /// `turns` turns have run.
+    ///
+    /// Example: `a_hub_drains_in_threads` in crates/uses/src/hubs.rt.
+    pub fn drain_some_by_query<R: Threads + Wait + Sync>(
+        &self,
+        rt: &R,
+        rows: u32,
+        turns: u64,
+        threads: usize,
+    ) -> Result<bool, Fault>
+        ensures some { (old : PlainLocked) × (new : PlainLocked)
+            × DrainsSomeByQuery old rows turns result new }
+        ensures idle { result ≡ Ok false → (l : PlainLocked) × Hands l rows (Ok Idle) l }
+    {
+        let mut locked = self.locked.lock(rt);
+        let drained = locked.drain_some_by_query(rt, rows, turns, threads);
+        let is_well = drained.is_ok();
+        if is_well {
+            locked.note_change();
+        }
+        self.release(locked, !is_well);
+        drained
+    }
+
     /// Gives up the rows that no query needs, and all entries: the history starts again with what
     /// is left. It needs no seat and makes no entry; numbers go on.
     ///
@@ -269,9 +303,9 @@ impl Hub {
 
     /// Waits until there were other changes than the first `seen`, or the end was called. It is for
     /// a thread that could not go on, as when out of memory. It looks each time that it is woken.
-    /// Not every change wakes it: `heartbeat_named` and `drain_some_alone` wake nobody, a settle at
-    /// most one thread, and most others nobody if they leave nothing ready. A change that woke
-    /// nobody shows at the next waking.
+    /// Not every change wakes it: `heartbeat_named`, `drain_some_alone` and `drain_some_by_query`
+    /// wake nobody, a settle at most one thread, and most others nobody if they leave nothing ready.
+    /// A change that woke nobody shows at the next waking.
     ///
     /// Example: `a_worker_waits_for_a_change` in crates/uses/src/hubs.rt.
     pub fn wait_for_change<R: Wait>(&self, rt: &R, seen: u64) {

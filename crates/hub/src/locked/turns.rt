@@ -1,6 +1,6 @@
 //! Answers what workers call. None of it changes the history.
 ghost use Rattle.std.specs.Prelude.{◌≡◌, ◌<◌, IfOk, IfErr, IsTrue, length, false};
-ghost use Rattle.hub.specs.Steps.{Drains, DrainsSome, Ends, GivesUp, Hands};
+ghost use Rattle.hub.specs.Steps.{Drains, DrainsSome, DrainsSomeByQuery, Ends, GivesUp, Hands};
 ghost use Rattle.hub.specs.Steps.{HasEnded, IsIdle, IsSame, Lends, Rests, SeesReady, Withholds};
 ghost use Rattle.hub.specs.Steps.{ended, engine_at, with_engine};
 ghost use Rattle.hub.specs.Tries.{MatchRested, MatchWaited};
@@ -86,6 +86,27 @@ impl Locked {
         ensures drains { DrainsSome self.old rows turns result self.new }
     {
         self.engine.drain_some(rows, turns)
+    }
+
+    /// Drains some turns in place, query by query, as `Engine::drain_some_by_query` does: at most
+    /// `turns` turns of at most `rows` rows, in at most `threads` threads if they pay. Returns
+    /// whether an operator may still take something. Turns that are out stay out.
+    ///
+    /// # Errors
+    /// Those of `drain`. `TooManyLeases` only if an operator may take something and fewer than
+    /// `turns` turns have run.
+    #[tactic(auto, unfolding(crate::specs::Steps::engine_at), using(crate::proofs::ReadyLemmas::idle_by_query))]
+    pub fn drain_some_by_query<R: Threads + Sync>(
+        &mut self,
+        rt: &R,
+        rows: u32,
+        turns: u64,
+        threads: usize,
+    ) -> Result<bool, Fault>
+        ensures step { self.new ≡ with_engine self.old self.new.engine }
+        ensures drains { DrainsSomeByQuery self.old rows turns result self.new }
+    {
+        self.engine.drain_some_by_query(rt, rows, turns, threads)
     }
 
     /// Returns whether an operator may take something. Takes no memory.

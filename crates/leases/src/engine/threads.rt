@@ -1,12 +1,13 @@
 //! Drains in threads.
-ghost use Rattle.std.specs.Prelude.{◌≡◌, ◌≢◌, Err, None, OnOk};
+ghost use Rattle.std.specs.Prelude.{◌≡◌, ◌≢◌, ◌<◌, ◌≤◌, ◌+◌, Err, None, Ok, OnOk, false, true};
 ghost use Rattle.reference.specs.World.{Drains, IsPlenty, drain_step};
 ghost use Rattle.reference.specs.declared.fault.Fault.TheVariants.{OutOfMemory, TooManyLeases};
 ghost use Rattle.run_queue.specs.Slots.{first_of};
 ghost use Rattle.laws_engine.specs.Promises.{HasAllWaiting, KeepsItsPromises};
 ghost use Rattle.leases.specs.ByQuery.{RunsByQuery};
-ghost use Rattle.leases.specs.Drains.{LeavesOthers};
+ghost use Rattle.leases.specs.Drains.{LeavesOthers, as_drained};
 ghost use Rattle.leases.specs.Shown.{engine_in, world_in};
+ghost use Rattle.leases.specs.Turns.{HasReady};
 ghost use Rattle.leases.specs.Whole.{HasNumbers, IsWhole};
 
 use crate::engine::Engine;
@@ -49,5 +50,49 @@ impl Engine {
         ensures promises { KeepsItsPromises (engine_in self.new) }
     {
         self.state.drain_by_query(rt, rows, threads)
+    }
+
+    /// Runs at most `turns` turns in place, query by query: each ready query gets an equal share of
+    /// them, in at most `threads` threads if they pay, as `drain_by_query` has them. What is left
+    /// of the turns then runs as `drain_some` does. Returns whether an operator may still take
+    /// something: if so, all `turns` turns have run, each with one number. A query that passes
+    /// instants at which it has nothing to do counts as one turn. `rows` limits the rows of each
+    /// turn: 1 to 1,024.
+    ///
+    /// Call it until it answers `false`, and let others have the engine in between. It is for much
+    /// work: it looks at each query that reads a stream. If a turn is out, or only one query is
+    /// ready, it is `drain_some`.
+    ///
+    /// # Errors
+    /// Those of `drain_some`. The turns of other queries stay.
+    ///
+    /// Example: `a_drain_takes_some_turns_of_each_query` in crates/uses/src/engine.rt.
+    pub fn drain_some_by_query<R: Threads + Sync>(
+        &mut self,
+        rt: &R,
+        rows: u32,
+        turns: u64,
+        threads: usize,
+    ) -> Result<bool, Fault>
+        ensures runs { RunsByQuery (engine_in self.old) rows (as_drained result)
+            (engine_in self.new) }
+        ensures most { (engine_in self.new).next ≤ (engine_in self.old).next + turns }
+        ensures some { turns ≢ 0 → HasReady (engine_in self.old)
+            → OnOk result ((engine_in self.old).next < (engine_in self.new).next) }
+        ensures more { result ≡ Ok true → HasReady (engine_in self.new) }
+        ensures last { result ≡ Ok true
+            → (engine_in self.new).next ≡ (engine_in self.old).next + turns }
+        ensures idle { result ≡ Ok false → first_of (engine_in self.new).slots ≡ None }
+        ensures all { result ≡ Ok false → HasAllWaiting (engine_in self.new) }
+        ensures fewer { result ≡ Err TooManyLeases
+            → (engine_in self.new).next < (engine_in self.old).next + turns }
+        ensures others { LeavesOthers (engine_in self.old) (as_drained result)
+            (engine_in self.new) }
+        ensures machine { (engine_in self.new).machine ≡ (engine_in self.old).machine }
+        ensures stays_whole { IsWhole self.old → result ≢ Err OutOfMemory → IsWhole self.new }
+        ensures spent { HasNumbers self.new → HasNumbers self.old }
+        ensures promises { KeepsItsPromises (engine_in self.new) }
+    {
+        self.state.drain_some_by_query(rt, rows, turns, threads)
     }
 }

@@ -1,17 +1,19 @@
 //! Drains each query by itself, in this thread or in several.
-ghost use Rattle.std.specs.Prelude.{◌≡◌, ◌≢◌, ◌+◌, ◌++◌, ◌<◌, ◌≤◌, ◌∷◌, ℕ, Err, IfOk, List, None};
-ghost use Rattle.std.specs.Prelude.{OnErr, OnOk, [], length, set, true};
-ghost use Rattle.reference.specs.declared.fault.Fault.TheVariants.{OutOfMemory};
+ghost use Rattle.std.specs.Prelude.{◌≡◌, ◌≢◌, ◌+◌, ◌*◌, ◌++◌, ◌<◌, ◌≤◌, ◌∷◌, ℕ, Err, IfOk, IfSome, List, None};
+ghost use Rattle.std.specs.Prelude.{Ok, OnErr, OnOk, [], false, length, set, true};
+ghost use Rattle.reference.specs.declared.fault.Fault.TheVariants.{OutOfMemory, TooManyLeases};
 ghost use Rattle.run_queue.specs.Slots.{first_of};
 ghost use Rattle.laws_engine.specs.Engines.{Dropped, PlainEngine, remains_at};
 ghost use Rattle.leases.specs.Applied.{GivesNothing, with_remains};
 ghost use Rattle.leases.specs.Asked.{IsRunningAt};
-ghost use Rattle.leases.specs.ByQuery.{HaveComeHome, RunsByQuery, SomeWereDone, SomeWereTried};
-ghost use Rattle.leases.specs.Drains.{LeavesOthers};
-ghost use Rattle.leases.specs.Jobs.{AreJobsBelow, AreLent, AreNewJobs, AreOut, IsBare};
+ghost use Rattle.leases.specs.ByQuery.{HaveComeHome, RunsByQuery, SomeHaveFailed, SomeWereDone};
+ghost use Rattle.leases.specs.Drains.{LeavesOthers, as_drained};
+ghost use Rattle.leases.specs.Jobs.{AreJobsBelow, AreLent, AreNewJobs, AreOut, HaveFewTurns};
+ghost use Rattle.leases.specs.Jobs.{IsBare, IsQuota};
 ghost use Rattle.leases.specs.Passing.{AreSlotsOf, MayLookAt};
 ghost use Rattle.leases.specs.Shown.{engine_in};
 ghost use Rattle.leases.specs.Sound.{IsSound};
+ghost use Rattle.leases.specs.Turns.{HasReady};
 ghost use Rattle.leases.specs.Views.{remains_of};
 ghost use Rattle.leases.specs.Whole.{IsWhole};
 ghost use Rattle.leases.specs.declared.state.jobs.Job.{Job as OneJob};
@@ -20,7 +22,7 @@ use crate::limits::LEASE_NUMBERS;
 use crate::reader::Reader;
 use crate::remains::Remains;
 use crate::state::State;
-use crate::state::jobs::{Job, MOST_TURNS};
+use crate::state::jobs::{Job, MOST_TURNS, Quota};
 use crate::state::shares::{run_all, run_jobs, work_of};
 use reference::{Fault, turn_fault};
 use std::alloc::AllocError;
@@ -56,49 +58,7 @@ impl State {
         self.run_turns(rows)
     }
 
-    /// Drains the ready queries, one after the other. It does so only if no turn is out, and two
-    /// queries or more are ready.
-    ///
-    /// # Errors
-    /// `AllocError` when out of memory: a query broke.
-    fn run_each(&mut self, rows: usize) -> Result<(), AllocError>
-        requires sound { IsSound self.old }
-        requires some { 0 < rows }
-        ensures ok { OnOk result (SomeWereDone rows (engine_in self.old) (engine_in self.new)) }
-        ensures err { OnErr result (SomeWereTried rows (engine_in self.old) (engine_in self.new)) }
-        ensures others { (engine_in self.new).leases ≡ (engine_in self.old).leases }
-        ensures sound { IsSound self.new }
-    {
-        if self.leases.len() > 0 {
-            return Ok(());
-        }
-        if self.registered.len() < 2 {
-            return Ok(());
-        }
-        let Ok(mut jobs) = self.jobs() else {
-            return Ok(());
-        };
-        if jobs.len() < 2 {
-            return Ok(());
-        }
-        self.run_in_turn(&mut jobs, rows);
-        self.bring_home(jobs)
-    }
-
-    /// Lends the jobs their queries, and drains one after the other.
-    fn run_in_turn(&mut self, jobs: &mut [Job], rows: usize)
-        requires sound { IsSound self.old }
-        requires some { 0 < rows }
-        requires returned { (engine_in self.old).leases ≡ [] }
-        requires new { AreNewJobs self.old jobs.old }
-        ensures { AreOut (engine_in self.old) rows jobs.new self.new }
-    {
-        self.lend(jobs);
-        run_all(&self.streams, &self.registered, self.alloc, rows, jobs);
-    }
-
-    /// Drains the ready queries, each by itself, in at most so many threads, if threads pay. Then
-    /// runs what is left, as `drain` does.
+    /// Does so in at most so many threads if they pay.
     pub(crate) fn drain_by_query<R: Threads + Sync>(
         &mut self,
         rt: &R,
@@ -115,12 +75,84 @@ impl State {
         if let Some(fault) = turn_fault(rows) {
             return Err(fault);
         }
-        self.run_by_query(rt, rows as usize, threads)?;
-        self.drain(rows)
+        let until = self.next.saturating_add(FEW_TURNS);
+        if !self.run_until(rows, until)? {
+            return Ok(());
+        }
+        self.run_by_query(rt, rows as usize, u64::MAX, threads)?;
+        self.run_turns(rows)
     }
 
-    /// Drains the ready queries in threads, each query by itself. It does so only if no turn is
-    /// out, two queries or more are ready, and so many rows wait for them that threads pay.
+    /// Runs at most so many turns: first those of the ready queries, each query by itself, in at
+    /// most so many threads if they pay; then turn by turn. Returns whether an operator may still
+    /// take something.
+    pub(crate) fn drain_some_by_query<R: Threads + Sync>(
+        &mut self,
+        rt: &R,
+        rows: u32,
+        turns: u64,
+        threads: usize,
+    ) -> Result<bool, Fault>
+        requires { IsSound self.old }
+        ensures runs { RunsByQuery (engine_in self.old) rows (as_drained result)
+            (engine_in self.new) }
+        ensures others { LeavesOthers (engine_in self.old) (as_drained result)
+            (engine_in self.new) }
+        ensures most { self.new.next ≤ self.old.next + turns }
+        ensures more { result ≡ Ok true → HasReady (engine_in self.new) }
+        ensures last { result ≡ Ok true → self.new.next ≡ self.old.next + turns }
+        ensures idle { result ≡ Ok false → first_of (engine_in self.new).slots ≡ None }
+        ensures fewer { result ≡ Err TooManyLeases → self.new.next < self.old.next + turns }
+        ensures whole { IsWhole self.old → result ≢ Err OutOfMemory → IsWhole self.new }
+        ensures sound { IsSound self.new }
+    {
+        if let Some(fault) = turn_fault(rows) {
+            return Err(fault);
+        }
+        let until = self.next.saturating_add(turns);
+        self.run_by_query(rt, rows as usize, turns, threads)?;
+        self.run_until(rows, until)
+    }
+
+    /// Drains the ready queries, one after the other. It does so only if no turn is out, and two
+    /// queries or more are ready.
+    ///
+    /// # Errors
+    /// `AllocError` when out of memory: a query broke.
+    fn run_each(&mut self, rows: usize) -> Result<(), AllocError>
+        requires sound { IsSound self.old }
+        requires some { 0 < rows }
+        ensures ok { OnOk result (SomeWereDone rows (engine_in self.old) (engine_in self.new)) }
+        ensures err { OnErr result (SomeHaveFailed rows (engine_in self.old) (engine_in self.new)) }
+        ensures others { (engine_in self.new).leases ≡ (engine_in self.old).leases }
+        ensures sound { IsSound self.new }
+    {
+        let Some(mut jobs) = self.jobs_apart() else {
+            return Ok(());
+        };
+        let quota = Quota {
+            rows,
+            turns: MOST_TURNS,
+        };
+        self.run_in_turn(&mut jobs, quota);
+        self.bring_home(jobs)
+    }
+
+    /// Lends the jobs their queries, and drains one after the other.
+    fn run_in_turn(&mut self, jobs: &mut [Job], quota: Quota)
+        requires sound { IsSound self.old }
+        requires quota { IsQuota quota }
+        requires returned { (engine_in self.old).leases ≡ [] }
+        requires new { AreNewJobs self.old jobs.old }
+        ensures { AreOut (engine_in self.old) quota.rows jobs.new self.new }
+    {
+        self.lend(jobs);
+        run_all(&self.streams, &self.registered, self.alloc, quota, jobs);
+    }
+
+    /// Runs at most so many turns of the ready queries, each query by itself and with an equal
+    /// share of them, in at most so many threads if they pay. It does so only if no turn is out,
+    /// and two queries or more are ready.
     ///
     /// # Errors
     /// `AllocError` when out of memory: a query broke.
@@ -128,39 +160,35 @@ impl State {
         &mut self,
         rt: &R,
         rows: usize,
+        turns: u64,
         threads: usize,
     ) -> Result<(), AllocError>
         requires sound { IsSound self.old }
         requires some { 0 < rows }
         ensures ok { OnOk result (SomeWereDone rows (engine_in self.old) (engine_in self.new)) }
-        ensures err { OnErr result (SomeWereTried rows (engine_in self.old) (engine_in self.new)) }
+        ensures err { OnErr result (SomeHaveFailed rows (engine_in self.old) (engine_in self.new)) }
+        ensures most { self.new.next ≤ self.old.next + turns }
         ensures others { (engine_in self.new).leases ≡ (engine_in self.old).leases }
         ensures sound { IsSound self.new }
     {
-        if self.leases.len() > 0 {
-            return Ok(());
-        }
-        if !self.may_pay(threads) {
-            return Ok(());
-        }
-        let Ok(mut jobs) = self.jobs() else {
+        let Some(mut jobs) = self.jobs_apart() else {
             return Ok(());
         };
+        let quota = Quota::of_each(rows, turns, jobs.len());
         let threads = paying_threads(&jobs, threads);
-        if threads < 2 {
-            return Ok(());
-        }
-        self.run_out(rt, &mut jobs, rows, threads);
+        self.run_out(rt, &mut jobs, quota, threads);
         self.bring_home(jobs)
     }
 
     /// Lends the jobs their queries, and drains each by itself, in at most so many threads.
-    fn run_out<R: Threads + Sync>(&mut self, rt: &R, jobs: &mut [Job], rows: usize, threads: usize)
+    fn run_out<R: Threads + Sync>(&mut self, rt: &R, jobs: &mut [Job], quota: Quota, threads: usize)
         requires sound { IsSound self.old }
-        requires some { 0 < rows }
+        requires quota { IsQuota quota }
         requires returned { (engine_in self.old).leases ≡ [] }
         requires new { AreNewJobs self.old jobs.old }
-        ensures { AreOut (engine_in self.old) rows jobs.new self.new }
+        ensures out { AreOut (engine_in self.old) quota.rows jobs.new self.new }
+        ensures next { self.new.next ≡ self.old.next }
+        ensures most { HaveFewTurns quota.turns jobs.new }
     {
         self.lend(jobs);
         run_jobs(
@@ -168,38 +196,31 @@ impl State {
             &self.streams,
             &self.registered,
             self.alloc,
-            rows,
+            quota,
             threads,
             jobs,
         );
     }
 
-    /// Returns whether more than one thread may pay, as far as the rows that wait say.
-    fn may_pay(&self, threads: usize) -> bool
+    /// Lists the jobs of the ready queries, if no turn is out and there are two or more. There are
+    /// none if memory for the list is refused.
+    fn jobs_apart(&self) -> Option<Vec<Job>>
         requires { IsSound self.now }
+        ensures returned { IfSome result (λ jobs. (engine_in self.now).leases ≡ []) }
+        ensures many { IfSome result (λ jobs. 2 ≤ length jobs.items) }
+        ensures new { IfSome result (λ jobs. AreNewJobs self.now jobs.items) }
     {
-        if threads < 2 {
-            return false;
+        if self.leases.len() > 0 {
+            return None;
         }
-        let mut rows: u64 = 0;
-        for place in 0..self.readers.len() {
-            rows = rows.saturating_add(self.rows_at(&self.readers[place]));
-            if 2 * ROWS_OF_A_THREAD <= rows {
-                return true;
-            }
+        if self.registered.len() < 2 {
+            return None;
         }
-        false
-    }
-
-    /// Counts the rows that wait for a window of a query, if the query runs.
-    #[tactic(auto, using(crate::proofs::LendLemmas::looked_at))]
-    fn rows_at(&self, reader: &Reader) -> u64
-        requires { IsSound self.now }
-    {
-        if !self.runs(reader.query) {
-            return 0;
+        let jobs = self.jobs().ok()?;
+        if jobs.len() < 2 {
+            return None;
         }
-        self.rows_for(reader)
+        Some(jobs)
     }
 
     /// Counts the rows that wait for a window of a running query, at the cost of a look at each.
@@ -374,7 +395,9 @@ impl State {
         ensures ok { OnOk result ((e : PlainEngine) (rows : ℕ) → AreOut e rows jobs.items self.old
             → SomeWereDone rows e (engine_in self.new)) }
         ensures err { OnErr result ((e : PlainEngine) (rows : ℕ)
-            → AreOut e rows jobs.items self.old → SomeWereTried rows e (engine_in self.new)) }
+            → AreOut e rows jobs.items self.old → SomeHaveFailed rows e (engine_in self.new)) }
+        ensures most { (n : ℕ) → HaveFewTurns n jobs.items
+            → self.new.next ≤ self.old.next + length jobs.items * n }
         ensures returned { (engine_in self.new).leases ≡ [] }
         ensures sound { IsSound self.new }
     {
@@ -395,9 +418,10 @@ impl State {
     fn take_home(&mut self, job: Job) -> bool
         requires { (e : PlainEngine) × ((rows : ℕ) × ((rest : List OneJob)
             × AreOut e rows (rest ++ job ∷ []) self.old)) }
-        ensures { (e : PlainEngine) (rows : ℕ) (rest : List OneJob)
+        ensures home { (e : PlainEngine) (rows : ℕ) (rest : List OneJob)
             → AreOut e rows (rest ++ job ∷ []) self.old
             → (e2 : PlainEngine) × (AreOut e2 rows rest self.new × HaveComeHome rows result e e2) }
+        ensures next { self.new.next ≡ self.old.next + job.turns }
     {
         let Job {
             query,

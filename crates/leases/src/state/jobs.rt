@@ -1,5 +1,5 @@
 //! Drains a query by itself.
-ghost use Rattle.std.specs.Prelude.{◌≡◌, ◌<◌, ◌⊎◌, IfErr, IfSome, OnOk, Some, length};
+ghost use Rattle.std.specs.Prelude.{◌≡◌, ◌<◌, ◌≤◌, ◌*◌, ◌⊎◌, IfErr, IfSome, OnOk, Some, length};
 ghost use Rattle.laws_queries.specs.Queries.{PlainQuery};
 ghost use Rattle.laws_engine.specs.Engines.{Running, next_of};
 ghost use Rattle.query_runtime.specs.Passing.{HasOperators};
@@ -7,7 +7,7 @@ ghost use Rattle.query_runtime.specs.Turns.{HasOperator};
 ghost use Rattle.leases.specs.Alone.{HasRunAlone, HasStoppedOwn, IsReadyIn, MayPassOwn};
 ghost use Rattle.leases.specs.Alone.{MayRunAlone, OneOwnStep};
 ghost use Rattle.leases.specs.Forgets.{IsMarkable};
-ghost use Rattle.leases.specs.Jobs.{HasRunJob, MayRunJob};
+ghost use Rattle.leases.specs.Jobs.{HasRunJob, IsQuota, MayRunJob};
 ghost use Rattle.leases.specs.Runs.{HasRunOn, HasStoppedOn, MayRunOn};
 ghost use Rattle.leases.specs.Views.{query_of, remains_of};
 
@@ -24,8 +24,33 @@ use run_queue::Slot;
 use std::alloc::Global;
 use stream_store::Streams;
 
-/// Limits the turns that a query runs by itself: many more than any drain has.
+/// Limits the turns of a query that are reckoned with: many more than any drain has.
 pub(crate) const MOST_TURNS: u64 = 1 << 40;
+
+/// Limits what a query does by itself.
+#[derive(Clone, Copy)]
+pub(crate) struct Quota {
+    /// Limits the rows of a turn.
+    pub(crate) rows: usize,
+    /// Limits the turns.
+    pub(crate) turns: u64,
+}
+
+impl Quota {
+    /// Returns the share of each of so many jobs in so many turns.
+    pub(crate) fn of_each(rows: usize, turns: u64, jobs: usize) -> Quota
+        requires { 0 < jobs }
+        ensures rows { result.rows ≡ rows }
+        ensures few { result.turns ≤ MOST_TURNS }
+        ensures all { jobs * result.turns ≤ turns }
+    {
+        let share = turns / jobs as u64;
+        Quota {
+            rows,
+            turns: share.min(MOST_TURNS),
+        }
+    }
+}
 
 /// Keeps a query while it is drained by itself.
 #[derive(Drop)]
@@ -57,14 +82,14 @@ pub(crate) fn run_job(
     streams: &Streams,
     registered: &[Registration],
     alloc: Global,
-    rows: usize,
+    quota: Quota,
 )
-    requires some { 0 < rows }
+    requires quota { IsQuota quota }
     requires may { MayRunJob streams.now registered.now job.old }
-    ensures { HasRunJob streams.now registered.now rows job.old job.new }
+    ensures { HasRunJob streams.now registered.now quota job.old job.new }
 {
     let registration = &registered[job.query as usize];
-    let ran = run_remains(&mut job.remains, streams, registration, alloc, rows);
+    let ran = run_remains(&mut job.remains, streams, registration, alloc, quota);
     job.turns = ran.turns;
     if let Some(reach) = ran.broke {
         job.remains.give_up(reach);
@@ -77,23 +102,23 @@ fn run_remains(
     streams: &Streams,
     registration: &Registration,
     alloc: Global,
-    rows: usize,
+    quota: Quota,
 ) -> Ran
-    requires some { 0 < rows }
+    requires quota { IsQuota quota }
     requires may { (p : PlainQuery) × ((remains_of remains.old ≡ Running p)
         × MayRunAlone streams.now (query_of registration.now) p) }
     ensures { (p : PlainQuery) → remains_of remains.old ≡ Running p
         → (p2 : PlainQuery) × ((remains_of remains.new ≡ Running p2)
-        × HasRunAlone streams.now (query_of registration.now) rows p result p2) }
+        × HasRunAlone streams.now (query_of registration.now) quota p result p2) }
 {
     match remains {
-        Remains::Running(query) => run_alone(query, streams, registration, alloc, rows),
+        Remains::Running(query) => run_alone(query, streams, registration, alloc, quota),
         _ => unreachable!(),
     }
 }
 
-/// Runs turns of a query in place until none of its operators may take anything. Where it has
-/// nothing to do at more than a few instants, it passes these instead.
+/// Runs turns of a query in place until none of its operators may take anything, or as many have run
+/// as may. Where it has nothing to do at more than a few instants, it passes these instead.
 ///
 /// A pass is tried at the start and after the turns of the root, as a drain turn by turn does.
 /// After those of another operator something waits as a rule.
@@ -102,21 +127,21 @@ fn run_alone(
     streams: &Streams,
     registration: &Registration,
     alloc: Global,
-    rows: usize,
+    quota: Quota,
 ) -> Ran
-    requires some { 0 < rows }
+    requires quota { IsQuota quota }
     requires may { MayRunAlone streams.now (query_of registration.now) query.old }
-    ensures { HasRunAlone streams.now (query_of registration.now) rows query.old result query.new }
+    ensures { HasRunAlone streams.now (query_of registration.now) quota query.old result query.new }
 {
     let mut turns = 0;
     let mut next: Option<Slot> = None;
     let mut settled = true;
-    'turns: while turns < MOST_TURNS {
+    'turns: while turns < quota.turns {
         let Some(slot) = next_ready(query, streams, registration, &next) else {
             return Ran { turns, broke: None };
         };
         let reach = reach_of(registration, query);
-        match run_step(query, streams, &slot, settled, alloc, rows) {
+        match run_step(query, streams, &slot, settled, alloc, quota.rows) {
             Ok(()) => turns += 1,
             Err(Refused::Before) => return Ran { turns, broke: None },
             Err(Refused::Within) => {

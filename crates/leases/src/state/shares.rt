@@ -1,10 +1,10 @@
 //! Drains the queries of jobs: in this thread, or in several, each with a share of the work.
 ghost use Rattle.std.specs.Prelude.{◌≡◌, ◌<◌, ◌≤◌, length};
 ghost use denote.Param.Send.{IsSync};
-ghost use Rattle.leases.specs.Jobs.{HasRunJob, HaveRunJobs, MayRunJob, MayRunJobs};
+ghost use Rattle.leases.specs.Jobs.{HasRunJob, HaveRunJobs, IsQuota, MayRunJob, MayRunJobs};
 
 use crate::registered::Registration;
-use crate::state::jobs::{Job, run_job};
+use crate::state::jobs::{Job, Quota, run_job};
 use std::alloc::Global;
 use std::thread;
 use std::thread::Threads;
@@ -19,16 +19,16 @@ pub(crate) fn run_jobs<R: Threads + Sync>(
     streams: &Streams,
     registered: &[Registration],
     alloc: Global,
-    rows: usize,
+    quota: Quota,
     threads: usize,
     jobs: &mut [Job],
 )
-    requires some { 0 < rows }
+    requires quota { IsQuota quota }
     requires may { MayRunJobs streams.now registered.now jobs.old }
-    ensures { HaveRunJobs streams.now registered.now rows jobs.old jobs.new }
+    ensures { HaveRunJobs streams.now registered.now quota jobs.old jobs.new }
 {
     if threads < 2 || jobs.len() < 2 {
-        run_share(rt, streams, registered, alloc, rows, jobs);
+        run_share(rt, streams, registered, alloc, quota, jobs);
         return;
     }
     let fewer = threads / 2;
@@ -39,7 +39,7 @@ pub(crate) fn run_jobs<R: Threads + Sync>(
         streams,
         registered,
         alloc,
-        rows,
+        quota,
         fewer,
         front,
         threads - fewer,
@@ -54,30 +54,30 @@ fn run_both<R: Threads + Sync>(
     streams: &Streams,
     registered: &[Registration],
     alloc: Global,
-    rows: usize,
+    quota: Quota,
     fewer: usize,
     front: &mut [Job],
     others: usize,
     back: &mut [Job],
 )
-    requires some { 0 < rows }
+    requires quota { IsQuota quota }
     requires fewer { 0 < fewer }
     requires others { 0 < others }
     requires front { MayRunJobs streams.now registered.now front.old }
     requires back { MayRunJobs streams.now registered.now back.old }
-    ensures front { HaveRunJobs streams.now registered.now rows front.old front.new }
-    ensures back { HaveRunJobs streams.now registered.now rows back.old back.new }
+    ensures front { HaveRunJobs streams.now registered.now quota front.old front.new }
+    ensures back { HaveRunJobs streams.now registered.now quota back.old back.new }
 {
     let mut first = ||
-        requires { IsSync R.row × (0 < rows) × MayRunJobs streams.now registered.now front.now }
-        ensures { HaveRunJobs streams.entry.now registered.entry.now rows front.entry.now
+        requires { IsSync R.row × IsQuota quota × MayRunJobs streams.now registered.now front.now }
+        ensures { HaveRunJobs streams.entry.now registered.entry.now quota front.entry.now
             front.exit.now }
-    { run_jobs(rt, streams, registered, alloc, rows, fewer, front) };
+    { run_jobs(rt, streams, registered, alloc, quota, fewer, front) };
     let mut second = ||
-        requires { IsSync R.row × (0 < rows) × MayRunJobs streams.now registered.now back.now }
-        ensures { HaveRunJobs streams.entry.now registered.entry.now rows back.entry.now
+        requires { IsSync R.row × IsQuota quota × MayRunJobs streams.now registered.now back.now }
+        ensures { HaveRunJobs streams.entry.now registered.entry.now quota back.entry.now
             back.exit.now }
-    { run_jobs(rt, streams, registered, alloc, rows, others, back) };
+    { run_jobs(rt, streams, registered, alloc, quota, others, back) };
     thread::join_mut(rt, &mut first, &mut second);
 }
 
@@ -87,18 +87,18 @@ fn run_share<R: Threads + Sync>(
     streams: &Streams,
     registered: &[Registration],
     alloc: Global,
-    rows: usize,
+    quota: Quota,
     jobs: &mut [Job],
 )
-    requires some { 0 < rows }
+    requires quota { IsQuota quota }
     requires may { MayRunJobs streams.now registered.now jobs.old }
-    ensures { HaveRunJobs streams.now registered.now rows jobs.old jobs.new }
+    ensures { HaveRunJobs streams.now registered.now quota jobs.old jobs.new }
 {
     let run = |_: usize, job: &mut Job|
-        requires { (0 < rows) × MayRunJob streams.now registered.now job.now }
-        ensures { HasRunJob streams.entry.now registered.entry.now rows job.entry.now
+        requires { IsQuota quota × MayRunJob streams.now registered.now job.now }
+        ensures { HasRunJob streams.entry.now registered.entry.now quota job.entry.now
             job.exit.now }
-    { run_job(job, streams, registered, alloc, rows) };
+    { run_job(job, streams, registered, alloc, quota) };
     thread::for_each_mut(rt, jobs, 1, &run);
 }
 
@@ -107,15 +107,15 @@ pub(crate) fn run_all(
     streams: &Streams,
     registered: &[Registration],
     alloc: Global,
-    rows: usize,
+    quota: Quota,
     jobs: &mut [Job],
 )
-    requires some { 0 < rows }
+    requires quota { IsQuota quota }
     requires may { MayRunJobs streams.now registered.now jobs.old }
-    ensures { HaveRunJobs streams.now registered.now rows jobs.old jobs.new }
+    ensures { HaveRunJobs streams.now registered.now quota jobs.old jobs.new }
 {
     for place in 0..jobs.len() {
-        run_job(&mut jobs[place], streams, registered, alloc, rows);
+        run_job(&mut jobs[place], streams, registered, alloc, quota);
     }
 }
 

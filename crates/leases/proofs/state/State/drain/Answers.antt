@@ -1,9 +1,9 @@
 -- A few turns; then query by query; then turn by turn.
-use Rattle.std.proofs.Common.{◌≡◌, ◌∙◌, Err, Ok, refl, sym}
+use Rattle.std.proofs.Common.{◌≡◌, ◌∙◌, Err, Ok, inl, refl, sym}
 use Rattle.reference.specs.declared.fault.Fault.TheVariants.{OutOfMemory}
 use Rattle.leases.specs.ByQuery.{RunsByQuery}
 use Rattle.leases.specs.Shown.{engine_in}
-use Rattle.leases.proofs.ByQueryLemmas.{done_none, done_on, drained, few_done, stays_whole, tried, tried_on}
+use Rattle.leases.proofs.ByQueryLemmas.{done_none, done_on, drained, failed_since, few_done, stays_whole}
 use Rattle.leases.proofs.DrainLemmas.{same_err}
 use Rattle.leases.proofs.state.State.drain.Goals as goal
 
@@ -22,8 +22,7 @@ returns-in_err-run_each-clause-runs c =
     let few = few_done (engine_in c.args.self.now) (engine_in c.run_until.new.self) c.args.rows c.requires.good c.in_ok-run_until.ensures.runs in
     same_err c.from_residual-in_err-run_each.result OutOfMemory (λ r. RunsByQuery (engine_in c.args.self.now) c.args.rows r (engine_in c.run_each.new.self)) c.from_residual-in_err-run_each.ensures.1 (
       sym c.in_default.ensures.first,
-      tried_on c.args.rows (engine_in c.args.self.now) (engine_in c.run_until.new.self) (engine_in c.run_each.new.self)
-          (tried c.args.rows (engine_in c.args.self.now) (engine_in c.run_until.new.self) few) c.in_err-run_each.ensures.err,
+      inl (failed_since c.args.rows (engine_in c.args.self.now) (engine_in c.run_until.new.self) (engine_in c.run_each.new.self) few c.in_err-run_each.ensures.err),
     )
 
 pub returns-clause-runs : goal.returns-clause-runs

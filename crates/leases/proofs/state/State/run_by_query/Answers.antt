@@ -3,11 +3,8 @@ use Rattle.std.proofs.Common.{sym, subst, arith}
 use Rattle.std.proofs.lemmas.Result.{on_err_weaker, on_ok_weaker}
 use Rattle.leases.specs.Jobs.{AreOut}
 use Rattle.leases.specs.Shown.{engine_in}
-use Rattle.leases.proofs.LendAllLemmas.{none_out, written_back}
+use Rattle.leases.proofs.LendAllLemmas.{written_back}
 use Rattle.leases.proofs.state.State.run_by_query.Goals as goal
-
-pub run_out-requires-clause-returned : goal.run_out-requires-clause-returned
-run_out-requires-clause-returned g c κs within = none_out c.args.self.now.leases.items (omega (arith, c.len.ensures, c.if-len-gt0.false, c.args.self.now.leases.ok))
 
 pub bring_home-requires : goal.bring_home-requires
 bring_home-requires g c = (
@@ -15,8 +12,8 @@ bring_home-requires g c = (
   (
     c.args.rows,
     subst (λ js. AreOut (engine_in c.args.self.now) c.args.rows js c.run_out.new.self)
-        (sym (written_back c.in-Ok.jobs.len c.run_out.new.jobs c.in-Ok.jobs.items (omega (arith, c.run_out.auto.jobs, c.deref_mut.ensures.len)) (omega (arith, c.in-Ok.jobs.ok))))
-        c.run_out.ensures,
+        (sym (written_back c.in-Some.jobs.len c.run_out.new.jobs c.in-Some.jobs.items (omega (arith, c.run_out.auto.jobs, c.deref_mut.ensures.len)) (omega (arith, c.in-Some.jobs.ok))))
+        (subst (λ k. AreOut (engine_in c.args.self.now) k c.run_out.new.jobs c.run_out.new.self) c.of_each-quota.ensures.rows c.run_out.ensures.out),
   ),
 )
 
@@ -25,8 +22,8 @@ returns-clause-ok g c =
     on_ok_weaker c.bring_home.result
     (λ f. f (engine_in c.args.self.now) c.args.rows
     (subst (λ js. AreOut (engine_in c.args.self.now) c.args.rows js c.run_out.new.self)
-    (sym (written_back c.in-Ok.jobs.len c.run_out.new.jobs c.in-Ok.jobs.items (omega (arith, c.run_out.auto.jobs, c.deref_mut.ensures.len)) (omega (arith, c.in-Ok.jobs.ok))))
-    c.run_out.ensures))
+    (sym (written_back c.in-Some.jobs.len c.run_out.new.jobs c.in-Some.jobs.items (omega (arith, c.run_out.auto.jobs, c.deref_mut.ensures.len)) (omega (arith, c.in-Some.jobs.ok))))
+    (subst (λ k. AreOut (engine_in c.args.self.now) k c.run_out.new.jobs c.run_out.new.self) c.of_each-quota.ensures.rows c.run_out.ensures.out)))
     c.bring_home.ensures.ok
 
 pub returns-clause-err : goal.returns-clause-err
@@ -34,6 +31,6 @@ returns-clause-err g c =
     on_err_weaker c.bring_home.result
     (λ f. f (engine_in c.args.self.now) c.args.rows
     (subst (λ js. AreOut (engine_in c.args.self.now) c.args.rows js c.run_out.new.self)
-    (sym (written_back c.in-Ok.jobs.len c.run_out.new.jobs c.in-Ok.jobs.items (omega (arith, c.run_out.auto.jobs, c.deref_mut.ensures.len)) (omega (arith, c.in-Ok.jobs.ok))))
-    c.run_out.ensures))
+    (sym (written_back c.in-Some.jobs.len c.run_out.new.jobs c.in-Some.jobs.items (omega (arith, c.run_out.auto.jobs, c.deref_mut.ensures.len)) (omega (arith, c.in-Some.jobs.ok))))
+    (subst (λ k. AreOut (engine_in c.args.self.now) k c.run_out.new.jobs c.run_out.new.self) c.of_each-quota.ensures.rows c.run_out.ensures.out)))
     c.bring_home.ensures.err

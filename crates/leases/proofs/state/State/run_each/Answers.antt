@@ -3,11 +3,8 @@ use Rattle.std.proofs.Common.{sym, subst, arith}
 use Rattle.std.proofs.lemmas.Result.{on_err_weaker, on_ok_weaker}
 use Rattle.leases.specs.Jobs.{AreOut}
 use Rattle.leases.specs.Shown.{engine_in}
-use Rattle.leases.proofs.LendAllLemmas.{none_out, written_back}
+use Rattle.leases.proofs.LendAllLemmas.{written_back}
 use Rattle.leases.proofs.state.State.run_each.Goals as goal
-
-pub run_in_turn-requires-clause-returned : goal.run_in_turn-requires-clause-returned
-run_in_turn-requires-clause-returned c = none_out c.args.self.now.leases.items (omega (arith, c.len.ensures, c.if-len-gt0.false, c.args.self.now.leases.ok))
 
 pub bring_home-requires : goal.bring_home-requires
 bring_home-requires c = (
@@ -15,7 +12,7 @@ bring_home-requires c = (
   (
     c.args.rows,
     subst (λ js. AreOut (engine_in c.args.self.now) c.args.rows js c.run_in_turn.new.self)
-        (sym (written_back c.in-Ok.jobs.len c.run_in_turn.new.jobs c.in-Ok.jobs.items (omega (arith, c.run_in_turn.auto.jobs, c.deref_mut.ensures.len)) (omega (arith, c.in-Ok.jobs.ok))))
+        (sym (written_back c.in-Some.jobs.len c.run_in_turn.new.jobs c.in-Some.jobs.items (omega (arith, c.run_in_turn.auto.jobs, c.deref_mut.ensures.len)) (omega (arith, c.in-Some.jobs.ok))))
         c.run_in_turn.ensures,
   ),
 )
@@ -25,7 +22,7 @@ returns-clause-ok c =
     on_ok_weaker c.bring_home.result
     (λ f. f (engine_in c.args.self.now) c.args.rows
     (subst (λ js. AreOut (engine_in c.args.self.now) c.args.rows js c.run_in_turn.new.self)
-    (sym (written_back c.in-Ok.jobs.len c.run_in_turn.new.jobs c.in-Ok.jobs.items (omega (arith, c.run_in_turn.auto.jobs, c.deref_mut.ensures.len)) (omega (arith, c.in-Ok.jobs.ok))))
+    (sym (written_back c.in-Some.jobs.len c.run_in_turn.new.jobs c.in-Some.jobs.items (omega (arith, c.run_in_turn.auto.jobs, c.deref_mut.ensures.len)) (omega (arith, c.in-Some.jobs.ok))))
     c.run_in_turn.ensures))
     c.bring_home.ensures.ok
 
@@ -34,6 +31,6 @@ returns-clause-err c =
     on_err_weaker c.bring_home.result
     (λ f. f (engine_in c.args.self.now) c.args.rows
     (subst (λ js. AreOut (engine_in c.args.self.now) c.args.rows js c.run_in_turn.new.self)
-    (sym (written_back c.in-Ok.jobs.len c.run_in_turn.new.jobs c.in-Ok.jobs.items (omega (arith, c.run_in_turn.auto.jobs, c.deref_mut.ensures.len)) (omega (arith, c.in-Ok.jobs.ok))))
+    (sym (written_back c.in-Some.jobs.len c.run_in_turn.new.jobs c.in-Some.jobs.items (omega (arith, c.run_in_turn.auto.jobs, c.deref_mut.ensures.len)) (omega (arith, c.in-Some.jobs.ok))))
     c.run_in_turn.ensures))
     c.bring_home.ensures.err

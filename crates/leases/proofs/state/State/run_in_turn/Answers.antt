@@ -11,5 +11,5 @@ run_all-requires-clause-may c = λ i job lt is.
 
 pub returns : goal.returns
 returns c =
-    all_out c.args.self.now c.requires.sound c.requires.returned c.lend.new.jobs c.lend.new.self c.lend.ensures c.args.rows c.run_all.new.jobs c.run_all.ensures.many
-    (λ i d lt. subst (λ rs. HasRunJob c.lend.new.self.streams rs c.args.rows (slice_index_or c.lend.new.jobs i d) (slice_index_or c.run_all.new.jobs i d)) c.deref.ensures.value (c.run_all.ensures.each i d lt))
+    all_out c.args.self.now c.requires.sound c.requires.returned c.lend.new.jobs c.lend.new.self c.lend.ensures c.args.quota c.run_all.new.jobs c.run_all.ensures.many
+    (λ i d lt. subst (λ rs. HasRunJob c.lend.new.self.streams rs c.args.quota (slice_index_or c.lend.new.jobs i d) (slice_index_or c.run_all.new.jobs i d)) c.deref.ensures.value (c.run_all.ensures.each i d lt))

@@ -8,29 +8,29 @@ use Rattle.leases.proofs.AloneLemmas.{alone_has, alone_mark, alone_on, alone_run
 use Rattle.leases.proofs.state.jobs.run_alone.Goals as goal
 
 pub next_ready-requires-clause-may : goal.next_ready-requires-clause-may
-next_ready-requires-clause-may c = alone_on c.args.streams.now (query_of c.args.registration.now) c.args.query.now c.requires.may c.args.rows c.turns.invariant.ran.0 c.turns.query c.turns.invariant.ran.1.0
+next_ready-requires-clause-may c = alone_on c.args.streams.now (query_of c.args.registration.now) c.args.query.now c.requires.may c.args.quota.rows c.turns.invariant.ran.0 c.turns.query c.turns.invariant.ran.1.0
 
 pub reach_of-reach-requires : goal.reach_of-reach-requires
 reach_of-reach-requires c =
     alone_mark c.args.streams.now (query_of c.args.registration.now) c.turns.query
-    (alone_on c.args.streams.now (query_of c.args.registration.now) c.args.query.now c.requires.may c.args.rows c.turns.invariant.ran.0 c.turns.query c.turns.invariant.ran.1.0)
+    (alone_on c.args.streams.now (query_of c.args.registration.now) c.args.query.now c.requires.may c.args.quota.rows c.turns.invariant.ran.0 c.turns.query c.turns.invariant.ran.1.0)
 
 pub run_step-requires-clause-has : goal.run_step-requires-clause-has
 run_step-requires-clause-has c = alone_has c.args.streams.now (query_of c.args.registration.now) c.turns.query
-    (alone_on c.args.streams.now (query_of c.args.registration.now) c.args.query.now c.requires.may c.args.rows c.turns.invariant.ran.0 c.turns.query c.turns.invariant.ran.1.0)
+    (alone_on c.args.streams.now (query_of c.args.registration.now) c.args.query.now c.requires.may c.args.quota.rows c.turns.invariant.ran.0 c.turns.query c.turns.invariant.ran.1.0)
 
 pub run_step-requires-clause-may : goal.run_step-requires-clause-may
 run_step-requires-clause-may c =
-    let may = alone_on c.args.streams.now (query_of c.args.registration.now) c.args.query.now c.requires.may c.args.rows c.turns.invariant.ran.0 c.turns.query c.turns.invariant.ran.1.0 in
+    let may = alone_on c.args.streams.now (query_of c.args.registration.now) c.args.query.now c.requires.may c.args.quota.rows c.turns.invariant.ran.0 c.turns.query c.turns.invariant.ran.1.0 in
     record {
       here = alone_has c.args.streams.now (query_of c.args.registration.now) c.turns.query may c.in-Some.slot.operator c.in-Some.ensures.within;
-      may = alone_runs c.args.streams.now (query_of c.args.registration.now) c.turns.query may c.in-Some.slot c.args.rows c.requires.some c.in-Some.ensures;
+      may = alone_runs c.args.streams.now (query_of c.args.registration.now) c.turns.query may c.in-Some.slot c.args.quota.rows c.requires.quota.some c.in-Some.ensures;
     }
 
 pub again-next-requires : goal.again-next-requires
 again-next-requires c =
-    let may = alone_on c.args.streams.now (query_of c.args.registration.now) c.args.query.now c.requires.may c.args.rows c.turns.invariant.ran.0 c.turns.query c.turns.invariant.ran.1.0 in
-    let more = alone_on c.args.streams.now (query_of c.args.registration.now) c.turns.query may c.args.rows (c.in-Ok.ensures.ok.0 ∷ []) c.run_step.new.query (c.run_step.new.query, (c.in-Ok.ensures.ok.1, refl)) in
+    let may = alone_on c.args.streams.now (query_of c.args.registration.now) c.args.query.now c.requires.may c.args.quota.rows c.turns.invariant.ran.0 c.turns.query c.turns.invariant.ran.1.0 in
+    let more = alone_on c.args.streams.now (query_of c.args.registration.now) c.turns.query may c.args.quota.rows (c.in-Ok.ensures.ok.0 ∷ []) c.run_step.new.query (c.run_step.new.query, (c.in-Ok.ensures.ok.1, refl)) in
     alone_has c.args.streams.now (query_of c.args.registration.now) c.run_step.new.query more c.in-Some.slot.operator
     (alone_same c.args.streams.now (query_of c.args.registration.now) c.turns.query c.run_step.new.query may more c.in-Some.slot.operator c.in-Some.ensures.within)
 
@@ -42,7 +42,7 @@ turns-preserved c =
       ran = (
         c.turns.invariant.ran.0 ++ step ∷ [],
         (
-          one_more_own c.args.streams.now c.args.rows c.args.query.now c.turns.query c.run_step.new.query c.turns.invariant.ran.0 step c.turns.invariant.ran.1.0 c.in-Ok.ensures.ok.1,
+          one_more_own c.args.streams.now c.args.quota.rows c.args.query.now c.turns.query c.run_step.new.query c.turns.invariant.ran.0 step c.turns.invariant.ran.1.0 c.in-Ok.ensures.ok.1,
           omega (arith, more, c.turns.invariant.ran.1.1),
         ),
       );
@@ -52,8 +52,8 @@ turns-preserved c =
 
 pub returns-in-Err-Within : goal.returns-in-Err-Within
 returns-in-Err-Within c =
-    let h : HasStoppedOwn Within c.args.streams.now c.args.rows c.turns.query c.run_step.new.query =
-    subst (λ r. HasStoppedOwn r c.args.streams.now c.args.rows c.turns.query c.run_step.new.query) c.in-Err-Within.field-0-is c.in-Err-Within.ensures.err in
+    let h : HasStoppedOwn Within c.args.streams.now c.args.quota.rows c.turns.query c.run_step.new.query =
+    subst (λ r. HasStoppedOwn r c.args.streams.now c.args.quota.rows c.turns.query c.run_step.new.query) c.in-Err-Within.field-0-is c.in-Err-Within.ensures.err in
     record {
       steps = c.turns.invariant.ran.0;
       after = c.turns.query;

@@ -61,7 +61,7 @@ impl<'a, R> Connection<'a, R> {
         }
     }
 
-    /// Makes one whose `serve` drains in at most so many threads if they pay. It rings an alarm when
+    /// Makes one whose `serve` drains in at most so many threads if they pay. It rings an alarm if
     /// a seat differs from the history. It does so at once: a forget may take what showed it.
     pub(crate) fn watched(
         rt: &'a R,

@@ -176,7 +176,7 @@ fn steps_by_query_answer_as_drains(rt: HostRuntime) -> Result<(), Fail> {
     Ok(())
 }
 
-/// Looks until as many answers wait at the first query as at the other hub's, or the last look. Then
+/// Looks until so many answers wait at the first query and nothing is ready, or the last look. Then
 /// calls the end.
 fn end_when_answered<R: Wait + Clock>(rt: &R, hub: &Hub, count: usize) {
     for _ in 0..LOOKS {

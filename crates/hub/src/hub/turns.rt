@@ -2,8 +2,8 @@
 ghost use Rattle.std.specs.Prelude.{◌≡◌, IfErr, IfOk, MatchOption, Ok, false, ⊤};
 ghost use Rattle.leases.specs.declared.leased.Leased.TheVariants.{Idle};
 ghost use Rattle.hub.specs.Steps.{PlainLocked, Drains, DrainsSome, DrainsSomeByQuery, Ends};
-ghost use Rattle.hub.specs.Steps.{Forgets, ForgetsWhenDue, GivesUp, Hands, HasEnded, IsReady, Lends, Rests};
-ghost use Rattle.hub.specs.Steps.{Withholds};
+ghost use Rattle.hub.specs.Steps.{Forgets, ForgetsWhenDue, GivesUp, Hands, HasEnded, IsReady};
+ghost use Rattle.hub.specs.Steps.{Lends, Rests, Withholds};
 ghost use Rattle.hub.specs.Tries.{MatchLeaseRest, MatchLeaseWait};
 
 use crate::hub::{Hub, LeaseRest, LeaseWait};
@@ -142,9 +142,9 @@ impl Hub {
     }
 
     /// Drains some turns in place, under the lock, query by query: at most `turns` turns of at most
-    /// `rows` rows, in at most `threads` threads if they pay. They end before this returns. Returns
-    /// whether an operator may still take something. Call it until it answers `false`: other calls
-    /// get the lock in between.
+    /// `rows` rows. It has at most `threads` threads if they pay, and they end before this returns.
+    /// Returns whether an operator may still take something. Call it until it answers `false`:
+    /// other calls get the lock in between.
     ///
     /// It is for much work, and looks at each query. It wakes nobody if more is ready: the caller
     /// goes on. If it fails, it wakes all.
@@ -303,9 +303,9 @@ impl Hub {
 
     /// Waits until there were other changes than the first `seen`, or the end was called. It is for
     /// a thread that could not go on, as when out of memory. It looks each time that it is woken.
-    /// Not every change wakes it: `heartbeat_named`, `drain_some_alone` and `drain_some_by_query`
-    /// wake nobody, a settle at most one thread, and most others nobody if they leave nothing ready.
-    /// A change that woke nobody shows at the next waking.
+    /// Not every change wakes it. `heartbeat_named`, `drain_some_alone` and `drain_some_by_query`
+    /// wake nobody, and a settle at most one thread. Most others wake nobody if they leave nothing
+    /// ready. A change that woke nobody shows at the next waking.
     ///
     /// Example: `a_worker_waits_for_a_change` in crates/uses/src/hubs.rt.
     pub fn wait_for_change<R: Wait>(&self, rt: &R, seen: u64) {

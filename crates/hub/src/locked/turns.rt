@@ -88,9 +88,9 @@ impl Locked {
         self.engine.drain_some(rows, turns)
     }
 
-    /// Drains some turns in place, query by query, as `Engine::drain_some_by_query` does: at most
-    /// `turns` turns of at most `rows` rows, in at most `threads` threads if they pay. Returns
-    /// whether an operator may still take something. Turns that are out stay out.
+    /// Drains some turns in place, as `Engine::drain_some_by_query` does: at most `turns` turns of
+    /// at most `rows` rows. It has at most `threads` threads if they pay. Returns whether an
+    /// operator may still take something. Turns that are out stay out.
     ///
     /// # Errors
     /// Those of `drain`. `TooManyLeases` only if an operator may take something and fewer than

@@ -52,12 +52,11 @@ impl Engine {
         self.state.drain_by_query(rt, rows, threads)
     }
 
-    /// Runs at most `turns` turns in place, query by query: each ready query gets an equal share of
-    /// them, in at most `threads` threads if they pay, as `drain_by_query` has them. What is left
-    /// of the turns then runs as `drain_some` does. Returns whether an operator may still take
-    /// something: if so, all `turns` turns have run, each with one number. A query that passes
-    /// instants at which it has nothing to do counts as one turn. `rows` limits the rows of each
-    /// turn: 1 to 1,024.
+    /// Runs at most `turns` turns in place, query by query. Each ready query gets an equal share of
+    /// them, in threads as `drain_by_query` has them. What is left of the turns then runs as
+    /// `drain_some` does. Returns whether an operator may still take something: if so, all `turns`
+    /// turns have run, each with one number. A query that passes instants at which it has nothing
+    /// to do counts as one turn. `rows` limits the rows of each turn: 1 to 1,024.
     ///
     /// Call it until it answers `false`, and let others have the engine in between. It is for much
     /// work: it looks at each query that reads a stream. If a turn is out, or only one query is

@@ -1,6 +1,6 @@
 //! Drains each query by itself, in this thread or in several.
-ghost use Rattle.std.specs.Prelude.{◌≡◌, ◌≢◌, ◌+◌, ◌*◌, ◌++◌, ◌<◌, ◌≤◌, ◌∷◌, ℕ, Err, IfOk, IfSome, List, None};
-ghost use Rattle.std.specs.Prelude.{Ok, OnErr, OnOk, [], false, length, set, true};
+ghost use Rattle.std.specs.Prelude.{◌≡◌, ◌≢◌, ◌+◌, ◌*◌, ◌++◌, ◌<◌, ◌≤◌, ◌∷◌, ℕ, Err, IfOk, IfSome};
+ghost use Rattle.std.specs.Prelude.{List, None, Ok, OnErr, OnOk, [], false, length, set, true};
 ghost use Rattle.reference.specs.declared.fault.Fault.TheVariants.{OutOfMemory, TooManyLeases};
 ghost use Rattle.run_queue.specs.Slots.{first_of};
 ghost use Rattle.laws_engine.specs.Engines.{Dropped, PlainEngine, remains_at};
@@ -83,8 +83,8 @@ impl State {
         self.run_turns(rows)
     }
 
-    /// Runs at most so many turns: first those of the ready queries, each query by itself, in at
-    /// most so many threads if they pay; then turn by turn. Returns whether an operator may still
+    /// Runs at most so many turns. First it takes the ready queries, each by itself, in at most so
+    /// many threads if they pay. Then it goes turn by turn. Returns whether an operator may still
     /// take something.
     pub(crate) fn drain_some_by_query<R: Threads + Sync>(
         &mut self,
@@ -150,9 +150,9 @@ impl State {
         run_all(&self.streams, &self.registered, self.alloc, quota, jobs);
     }
 
-    /// Runs at most so many turns of the ready queries, each query by itself and with an equal
-    /// share of them, in at most so many threads if they pay. It does so only if no turn is out,
-    /// and two queries or more are ready.
+    /// Runs at most so many turns of the ready queries, in at most so many threads if they pay. Of
+    /// the turns each query has an equal share. It does so only if no turn is out, and two queries
+    /// or more are ready.
     ///
     /// # Errors
     /// `AllocError` when out of memory: a query broke.

@@ -117,8 +117,8 @@ fn run_remains(
     }
 }
 
-/// Runs turns of a query in place until none of its operators may take anything, or as many have run
-/// as may. Where it has nothing to do at more than a few instants, it passes these instead.
+/// Runs turns of a query in place until none of its operators may take anything, or it has run as
+/// many as it may. Where it has nothing to do at more than a few instants, it passes these instead.
 ///
 /// A pass is tried at the start and after the turns of the root, as a drain turn by turn does.
 /// After those of another operator something waits as a rule.

@@ -33,8 +33,8 @@ use std::thread::Threads;
 /// To start and to end a thread costs as much as tens of rows.
 const ROWS_OF_A_THREAD: u64 = 1_024;
 
-/// Says after how many turns it pays to look for the ready queries, at the cost of a look at each.
-const FEW_TURNS: u64 = 64;
+/// Says how many windows may be looked at for each turn that has run.
+const LOOKS_OF_A_TURN: u64 = 4;
 
 impl State {
     /// Runs a few turns, so that a short drain looks at no idle query. Then drains the ready
@@ -50,12 +50,18 @@ impl State {
         if let Some(fault) = turn_fault(rows) {
             return Err(fault);
         }
-        let until = self.next.saturating_add(FEW_TURNS);
+        let until = self.next.saturating_add(self.few_turns());
         if !self.run_until(rows, until)? {
             return Ok(());
         }
         self.run_each(rows as usize)?;
         self.run_turns(rows)
+    }
+
+    /// Returns after how many turns it pays to look for the ready queries, at the cost of a look at
+    /// each window.
+    fn few_turns(&self) -> u64 {
+        self.readers.len() as u64 / LOOKS_OF_A_TURN
     }
 
     /// Does so in at most so many threads if they pay.
@@ -75,7 +81,7 @@ impl State {
         if let Some(fault) = turn_fault(rows) {
             return Err(fault);
         }
-        let until = self.next.saturating_add(FEW_TURNS);
+        let until = self.next.saturating_add(self.few_turns());
         if !self.run_until(rows, until)? {
             return Ok(());
         }
@@ -114,8 +120,7 @@ impl State {
         self.run_until(rows, until)
     }
 
-    /// Drains the ready queries, one after the other. It does so only if no turn is out, and two
-    /// queries or more are ready.
+    /// Drains the ready queries, one after the other. It does so only if no turn is out.
     ///
     /// # Errors
     /// `AllocError` when out of memory: a query broke.
@@ -151,8 +156,7 @@ impl State {
     }
 
     /// Runs at most so many turns of the ready queries, in at most so many threads if they pay. Of
-    /// the turns each query has an equal share. It does so only if no turn is out, and two queries
-    /// or more are ready.
+    /// the turns each query has an equal share. It does so only if no turn is out.
     ///
     /// # Errors
     /// `AllocError` when out of memory: a query broke.
@@ -202,22 +206,19 @@ impl State {
         );
     }
 
-    /// Lists the jobs of the ready queries, if no turn is out and there are two or more. There are
-    /// none if memory for the list is refused.
+    /// Lists the jobs of the ready queries, if no turn is out and there are any. There are none if
+    /// memory for the list is refused.
     fn jobs_apart(&self) -> Option<Vec<Job>>
         requires { IsSound self.now }
         ensures returned { IfSome result (λ jobs. (engine_in self.now).leases ≡ []) }
-        ensures many { IfSome result (λ jobs. 2 ≤ length jobs.items) }
+        ensures some { IfSome result (λ jobs. 0 < length jobs.items) }
         ensures new { IfSome result (λ jobs. AreNewJobs self.now jobs.items) }
     {
         if self.leases.len() > 0 {
             return None;
         }
-        if self.registered.len() < 2 {
-            return None;
-        }
         let jobs = self.jobs().ok()?;
-        if jobs.len() < 2 {
+        if jobs.is_empty() {
             return None;
         }
         Some(jobs)

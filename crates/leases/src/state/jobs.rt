@@ -120,8 +120,9 @@ fn run_remains(
 /// Runs turns of a query in place until none of its operators may take anything, or it has run as
 /// many as it may. Where it has nothing to do at more than a few instants, it passes these instead.
 ///
-/// A pass is tried at the start and after the turns of the root, as a drain turn by turn does.
-/// After those of another operator something waits as a rule.
+/// It goes instant by instant: no operator runs ahead of those above it. So after the turns of the
+/// root nothing waits between operators, and a gap can be passed, whatever the slopes are. A pass is
+/// tried then, and at the start.
 fn run_alone(
     query: &mut RunningQuery,
     streams: &Streams,
@@ -151,7 +152,7 @@ fn run_alone(
                 };
             },
         }
-        next = again(query, streams, registration, &slot);
+        next = again(query, streams, &slot);
         settled = query.len() <= slot.operator().saturating_add(1);
     }
     Ran { turns, broke: None }
@@ -240,14 +241,8 @@ fn next_ready(
     }
 }
 
-/// Returns the slot with what its operator may take next, if it would come first again. It would if
-/// that is of the same instant, and the slope of the operator above is no greater.
-fn again(
-    query: &RunningQuery,
-    streams: &Streams,
-    registration: &Registration,
-    slot: &Slot,
-) -> Option<Slot>
+/// Returns the slot with what its operator may take next, if that is of the same instant.
+fn again(query: &RunningQuery, streams: &Streams, slot: &Slot) -> Option<Slot>
     requires { HasOperator streams.now query.now slot.now.operator }
     ensures { IfSome result (IsReadyIn streams.now query.now) }
 {
@@ -255,23 +250,11 @@ fn again(
     if !slot.goes_on(next) {
         return None;
     }
-    let above = query.wire(slot.operator()).to;
-    if is_below_steeper(registration, slot, above) {
-        return None;
-    }
     Some(slot.with_next(next))
 }
 
-/// Returns whether the operator above has a greater slope than the slot's. The root has none above.
-fn is_below_steeper(registration: &Registration, slot: &Slot, above: usize) -> bool {
-    match registration.slopes.get(above) {
-        Some(slope) => Slot::new(*slope, None, 0, above).is_steeper(slot),
-        None => false,
-    }
-}
-
-/// Returns the slot that comes first among those of the query's operators, if any may take
-/// something.
+/// Returns the slot that waits for the earliest instant among those of the query's operators, if
+/// any may take something. Of several it is the lowest one's.
 fn first_ready(query: &RunningQuery, streams: &Streams, registration: &Registration) -> Option<Slot>
     requires { MayRunAlone streams.now (query_of registration.now) query.now }
     ensures { IfSome result (IsReadyIn streams.now query.now) }
@@ -286,13 +269,22 @@ fn first_ready(query: &RunningQuery, streams: &Streams, registration: &Registrat
     first
 }
 
-/// Returns the one of two slots that comes first.
+/// Returns the one of two slots that waits for the earlier instant, or the other one if both wait
+/// for the same.
 fn first_of(slot: Slot, other: &Option<Slot>) -> Slot
     ensures { (result ≡ slot) ⊎ (other.now ≡ Some result) }
 {
     match other {
-        Some(other) if *other < slot => *other,
+        Some(other) if is_no_later(other, &slot) => *other,
         _ => slot,
+    }
+}
+
+/// Returns whether a slot waits for no later instant than another.
+fn is_no_later(slot: &Slot, other: &Slot) -> bool {
+    match (slot.instant(), other.instant()) {
+        (Some(at), Some(than)) => at <= than,
+        _ => false,
     }
 }
 

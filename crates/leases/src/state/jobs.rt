@@ -121,8 +121,8 @@ fn run_remains(
 /// many as it may. Where it has nothing to do at more than a few instants, it passes these instead.
 ///
 /// It goes instant by instant: no operator runs ahead of those above it. So after the turns of the
-/// root nothing waits between operators, and a gap can be passed, whatever the slopes are. A pass is
-/// tried then, and at the start.
+/// root nothing waits between operators, and a gap can be passed, whatever the slopes are. A pass
+/// is tried then, and at the start.
 fn run_alone(
     query: &mut RunningQuery,
     streams: &Streams,

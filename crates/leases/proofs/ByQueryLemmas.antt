@@ -1,5 +1,5 @@
 -- A drain that takes query by query goes through turns of operators that might be leased, whatever their slopes.
-use Rattle.std.proofs.Common.{◌≡◌, ◌≢◌, ◌<◌, ◌≤◌, ◌+◌, ◌++◌, ◌⊎◌, ⊎_elim, inl, inr, ℕ, true, false, Some, None, Result, Ok, Err, OnOk, List, [], ◌∷◌, length, map, refl, sym, ap, ◌∙◌, subst, arith}
+use Rattle.std.proofs.Common.{◌≡◌, ◌≢◌, ◌<◌, ◌≤◌, ◌+◌, ◌++◌, ◌⊎◌, ⊎_elim, inl, inr, ℕ, true, false, Some, None, Result, Ok, Err, IfErr, OnOk, List, [], ◌∷◌, length, map, refl, sym, ap, ◌∙◌, subst, arith}
 use Rattle.std.specs.Prelude.{⊤, Bool, ◌||◌, is_some}
 use Rattle.std.specs.List.{AllByRecursion}
 use Rattle.values.specs.Row.{Row}
@@ -17,8 +17,8 @@ use Rattle.laws_engine.proofs.HistoryLemmas.{step_good}
 use Rattle.laws_engine.proofs.LeaseLemmas.{leasable_ready, ready_good}
 use Rattle.laws_engine.proofs.OrderLemmas.{finish_kinds, kind_on, kind_same, pass_kinds}
 use Rattle.laws_engine.proofs.PassingLemmas.{pass_good}
-use Rattle.leases.specs.ByQuery.{AnyStep, FailedAny, GoesOutOfAny, HaveRunAny, IsAnyStep, PassedAny, HasRunOut, RanAny, RunsByQuery, SomeHaveFailed, SomeWereDone, has_failed, one_has_failed}
-use Rattle.leases.specs.Drains.{HasBrokenOne, RanOutOfMemory, HaveRun, IsDone, LeavesOthers, Passed, Ran, RunsTurns, Step, as_drained}
+use Rattle.leases.specs.ByQuery.{AnyStep, FailedAny, GoesOutOfAny, HaveRunAny, IsAnyStep, PassedAny, HasRunOut, HasRunOutBelow, RanAny, RunsByQuery, SomeHaveFailed, SomeWereDone, has_failed, one_has_failed}
+use Rattle.leases.specs.Drains.{HasBrokenOne, OneHasFailed, RanOutBelow, RanOutOfMemory, HaveRun, IsDone, LeavesOthers, Passed, Ran, RunsTurns, Step, as_drained}
 use Rattle.leases.specs.Sound.{is_gone}
 use Rattle.leases.specs.Turns.{HasReady, IsFull, IsTurnOf, lease_fault}
 use Rattle.leases.specs.Views.{lease_of}
@@ -109,9 +109,12 @@ all_any rows (s ∷ steps) e e2 good h =
 pub few_done : (old new : PlainEngine) (rows : ℕ) → GoodEngine old → RunsTurns old rows (Ok tt) new → SomeWereDone rows old new
 few_done old new rows good h = (all_any rows h.1.0 old new good h.1.1).1
 
+one_failed : (rows : ℕ) (e e2 : PlainEngine) → GoodEngine e → OneHasFailed rows e e2 → SomeHaveFailed rows e e2
+one_failed rows e e2 good h = (FailedAny (lease_of h.0) ∷ [], ((e2, ((h.1.0, (goes_of_any rows e h.0 h.1.0 good h.1.1.0, h.1.1.1)), refl)), refl))
+
 wanted_any : (rows : ℕ) (e e2 : PlainEngine) → GoodEngine e → RanOutOfMemory rows e e2 → HasRunOut rows e e2
 wanted_any rows e e2 good (inl h) = inr (done_none rows e e2 h.2, subst (λ z. lease_fault z rows ≡ None) (sym h.2) h.0, subst HasReady (sym h.2) h.1)
-wanted_any rows e e2 good (inr h) = inl (FailedAny (lease_of h.0) ∷ [], ((e2, ((h.1.0, (goes_of_any rows e h.0 h.1.0 good h.1.1.0, h.1.1.1)), refl)), refl))
+wanted_any rows e e2 good (inr h) = inl (one_failed rows e e2 good h)
 
 -- THE WHOLE DRAIN: query by query, and then turn by turn
 both_limits : (rows : ℕ) → drain_fault rows ≡ None → drain_fault rows ≡ Some BadLimit → ⊥
@@ -208,6 +211,9 @@ all_give rows (s ∷ steps) e e2 h =
     let more : h.0.next ≤ e2.next = all_give rows steps h.0 e2 h.1.1 in
     omega (arith, one, more)
 
+pub done_gives : (rows : ℕ) (e e2 : PlainEngine) → SomeWereDone rows e e2 → HasGivenMore e e2
+done_gives rows e e2 h = all_give rows h.0 e e2 h.1.0
+
 pub by_query_gives : (old new : PlainEngine) (rows : ℕ) (r : Result ⊤ Fault) → RunsByQuery old rows r new → HasGivenMore old new
 by_query_gives old new rows r h = let t = ends old new rows r h in all_give rows t.0 old new t.1
 
@@ -228,6 +234,41 @@ some_by_query old new rows turns (Ok true) ran last idle some ready =
     omega (arith, all, some)
 some_by_query old new rows turns (Ok false) ran last idle some ready = some_any rows ran.1.0 old new ran.1.1.0 ready (idle refl)
 some_by_query old new rows turns (Err f) ran last idle some ready = tt
+
+-- NOTHING HAS RUN where no number was taken
+none_any : (rows : ℕ) (steps : List AnyStep) (e e2 : PlainEngine) → HaveRunAny rows e steps e2 → e2.next ≤ e.next → e2 ≡ e
+none_any rows [] e e2 h none = h
+none_any rows (s ∷ steps) e e2 h none =
+    let one : e.next + 1 ≡ h.0.next = any_counts rows s e h.0 h.1.0 in
+    let more : h.0.next ≤ e2.next = all_give rows steps h.0 e2 h.1.1 in
+    absurd (omega (arith, one, more, none))
+
+pub done_nothing : (rows : ℕ) (e e2 : PlainEngine) → SomeWereDone rows e e2 → e2.next ≤ e.next → e2 ≡ e
+done_nothing rows e e2 h none = none_any rows h.0 e e2 h.1.0 none
+
+pub failed_takes : (rows : ℕ) (e e2 : PlainEngine) → SomeHaveFailed rows e e2 → e.next < e2.next
+failed_takes rows e e2 h = takes h.0 e h.1.0 h.1.1 where
+  takes : (steps : List AnyStep) (e1 : PlainEngine) → HaveRunAny rows e1 steps e2 → one_has_failed steps ≡ true → e1.next < e2.next
+  takes [] e1 ran some = absurd (let bad : false ≡ true = some in cc)
+  takes (s ∷ steps) e1 ran some =
+      let one : e1.next + 1 ≡ ran.0.next = any_counts rows s e1 ran.0 ran.1.0 in
+      let more : ran.0.next ≤ e2.next = all_give rows steps ran.0 e2 ran.1.1 in
+      omega (arith, one, more)
+
+pub none_by_query : (old new : PlainEngine) (rows : ℕ) (r : Result Bool Fault) → RunsByQuery old rows (as_drained r) new → new.next ≤ old.next → IfErr r (λ f. f ≡ BadLimit) → new ≡ old
+none_by_query old new rows (Ok more) ran none refused = done_nothing rows old new ran.1 none
+none_by_query old new rows (Err f) ran none refused =
+    let ended : RunsByQuery old rows (Err BadLimit) new = subst (λ (x : Fault). RunsByQuery old rows (Err x) new) refused ran in
+    ended.1
+
+-- MEMORY RAN OUT before an end
+pub out_below : (rows end : ℕ) (old mid new : PlainEngine) → GoodEngine mid → SomeWereDone rows old mid → RanOutBelow rows end mid new → HasRunOutBelow rows end old new
+out_below rows end old mid new good first h =
+    let ran = all_any rows h.1.0.0 mid h.0 good h.1.0.1 in
+    ⊎_elim
+    (λ lacked. inr (subst (λ (z : PlainEngine). z.next < end) (sym lacked.2) h.1.1.1))
+    (λ failed. inl (failed_since rows old mid new first (failed_since rows mid h.0 new ran.1 (one_failed rows h.0 new ran.0 failed))))
+    h.1.1.0
 
 -- NO QUERY BREAKS where no step fails
 any_kinds : (rows : ℕ) (s : AnyStep) (e e2 : PlainEngine) → GoodEngine e → IsAnyStep rows e s e2 → has_failed s ≡ false → SameKinds e e2

@@ -1,6 +1,6 @@
 -- A drain that takes query by query: turns of any operators that might be leased.
-use Rattle.std.specs.Prelude.{ℕ, ⊤, ◌≡◌, ◌⊎◌, ◌||◌, true, false, Bool, min, None, Some, List, []}
-use Rattle.std.specs.Prelude.{◌∷◌}
+use Rattle.std.specs.Prelude.{ℕ, ⊤, ◌≡◌, ◌<◌, ◌⊎◌, ◌||◌, true, false, Bool, min, None, Some, List}
+use Rattle.std.specs.Prelude.{[], ◌∷◌}
 use Rattle.std.specs.Prelude.{Result, Ok, Err}
 use Rattle.std.specs.List.{AllByRecursion}
 use Rattle.op_queue.specs.Items.{entries_of}
@@ -73,6 +73,10 @@ SomeHaveFailed rows old new = (steps : List AnyStep)
 abbrev pub HasRunOut : ℕ → PlainEngine → PlainEngine → Type 0
 HasRunOut rows old new = SomeHaveFailed rows old new
     ⊎ (SomeWereDone rows old new × (lease_fault new rows ≡ None) × HasReady new)
+
+-- and it did so before an end: a step failed, or a number below the end was left for one more
+abbrev pub HasRunOutBelow : ℕ → ℕ → PlainEngine → PlainEngine → Type 0
+HasRunOutBelow rows end old new = SomeHaveFailed rows old new ⊎ (new.next < end)
 
 -- A DRAIN by turns of at most so many rows: some were done; or it was refused where that number is
 -- out of range; or it ended where an operator may be leased and as many turns are out as may be, or

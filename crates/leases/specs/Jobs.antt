@@ -30,7 +30,7 @@ pub record MayRunJob (streams : List Stream) (all : List Registration) (j : Job)
   pub running : remains_of j.remains ≡ Running plain
   pub may : MayRunAlone streams (query_of query) plain
 
--- WHAT IT MAY DO: turns of some rows, and not more of them than numbers are kept for
+-- WHAT IT MAY DO: turns of some rows, at most as many as numbers are kept for
 pub record IsQuota (quota : Quota) : Type 0 where
   pub some : 0 < quota.rows
   pub few : quota.turns ≤ MOST_TURNS

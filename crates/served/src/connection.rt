@@ -34,8 +34,8 @@ pub struct Connection<'a, R> {
     /// Says after how many values in its history the hub forgets, as `Locked::is_due` counts them.
     /// At 0 it forgets only if a request asks.
     pub forget: u64,
-    /// Limits the threads of a drain of `serve`, with its own.
-    threads: usize,
+    /// Limits the threads of a drain by `serve`, its own included.
+    pub threads: usize,
     /// Says whether a seat differed from the history when it settled.
     has_differed: AtomicBool,
     /// Is rung when a seat differs, if there is one.
@@ -48,6 +48,7 @@ impl<'a, R> Connection<'a, R> {
     pub fn new(rt: &'a R, alloc: Global, hub: &'a Hub, rows: u32, forget: u64) -> Connection<'a, R>
         ensures rows { result.rows ≡ rows }
         ensures forget { result.forget ≡ forget }
+        ensures threads { result.threads ≡ 1 }
     {
         Connection {
             rt,
@@ -74,6 +75,7 @@ impl<'a, R> Connection<'a, R> {
     ) -> Connection<'a, R>
         ensures rows { result.rows ≡ rows }
         ensures forget { result.forget ≡ forget }
+        ensures threads { result.threads ≡ threads }
     {
         Connection {
             rt,
@@ -146,7 +148,8 @@ impl<R: Threads + Wait + Sync> Connection<'_, R> {
     }
 
     /// Answers one connection until its input ends or a device fails, as `serve_connection` does.
-    /// The seat may settle between two requests.
+    /// The seat may settle between two requests. A long drain has at most `threads` threads, if
+    /// they pay.
     ///
     /// # Errors
     /// Those of `run_hub`.

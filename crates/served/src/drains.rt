@@ -12,13 +12,7 @@ use std::alloc::Global;
 use std::sync::Wait;
 use std::thread::Threads;
 use wire::{Reply, done};
-use workers::{MAX_WORKERS, NoGate, Pool, bring_back};
-
-/// Says after how many turns a drain goes query by query.
-const TURNS: u64 = 64;
-
-/// Limits the turns that a drain then runs under one taking of the lock.
-const TURNS_BY_QUERY: u64 = 1_024;
+use workers::{MAX_WORKERS, NoGate, Pool, TURNS_BY_QUERY, TURNS_IN_PLACE, bring_back};
 
 /// Runs the turns of a drain.
 pub(crate) trait Drainer {
@@ -83,8 +77,8 @@ impl<R: Threads + Wait + Sync> Drainer for OwnDrainer<'_, R> {
 }
 
 // Runs turns in place until nothing is ready, some under one taking of the lock, so that other
-// clients are answered in between. A short drain goes turn by turn, and looks at no idle query. A
-// long one goes query by query from some point on, in at most so many threads if they pay.
+// clients are answered in between. A short drain goes turn by turn, and looks at no idle query.
+// After `TURNS_IN_PLACE` turns it goes query by query, in at most so many threads if they pay.
 fn drain_in_place<R: Threads + Wait + Sync>(
     rt: &R,
     hub: &Hub,
@@ -93,7 +87,7 @@ fn drain_in_place<R: Threads + Wait + Sync>(
 ) -> Result<(), Fault>
     ensures { OnOk result (WasIdle rows) }
 {
-    if !hub.drain_some_alone(rt, rows, TURNS)? {
+    if !hub.drain_some_alone(rt, rows, TURNS_IN_PLACE)? {
         return Ok(());
     }
     for _ in rt.forever() {

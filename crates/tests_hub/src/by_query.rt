@@ -1,6 +1,7 @@
 //! Tests that a drain query by query answers as one turn by turn does, in however many threads.
 
 use crate::fixture::{declare, opened};
+use crate::scarcity::is_drain_answered;
 use hub::{Hub, Seat};
 use leases::Leased;
 use reference::{Fault, NewRows};
@@ -176,30 +177,40 @@ fn steps_by_query_answer_as_drains(rt: HostRuntime) -> Result<(), Fail> {
     Ok(())
 }
 
-/// Looks until so many answers wait at the first query and nothing is ready, or the last look. Then
+/// Returns whether as many answers wait at each query as at the other hub's.
+fn has_as_many<R: Wait>(rt: &R, one: &Hub, other: &Hub) -> bool {
+    for query in 0..QUERIES.len() as u64 {
+        if other.waiting(rt, query) != one.waiting(rt, query) {
+            return false;
+        }
+    }
+    true
+}
+
+/// Looks until as many answers wait at each query as at the other hub's, or the last look. Then
 /// calls the end.
-fn end_when_answered<R: Wait + Clock>(rt: &R, hub: &Hub, count: usize) {
+fn end_when_answered<R: Wait + Clock>(rt: &R, one: &Hub, other: &Hub) {
     for _ in 0..LOOKS {
-        if hub.waiting(rt, 0) == Ok(count) && !hub.has_ready(rt) {
+        if has_as_many(rt, one, other) {
             break;
         }
         thread::sleep(rt, Duration::from_millis(1));
     }
-    hub.end(rt);
+    other.end(rt);
 }
 
-/// Has a helper drain the hub in at most four threads, until so many answers wait at the first
-/// query.
+/// Has a helper drain the other hub in at most four threads, until as much is answered as in the
+/// first.
 fn drain_by_helper<R: Threads + Wait + Clock + Sync>(
     rt: &R,
     alloc: Global,
-    hub: &Hub,
-    count: usize,
+    one: &Hub,
+    other: &Hub,
 ) {
     let ((), ()) = thread::join(
         rt,
-        move || end_when_answered(rt, hub, count),
-        move || help(rt, alloc, hub, &NoGate, 256, 4),
+        move || end_when_answered(rt, one, other),
+        move || help(rt, alloc, other, &NoGate, 256, 4),
     );
 }
 
@@ -213,14 +224,47 @@ fn helper_answers_alike<R: Threads + Wait + Clock + Sync>(
     fill(rt, alloc, &one, &mut first, 0)?;
     fill(rt, alloc, &other, &mut second, 0)?;
     one.drain_some(rt, 256, MANY)?;
-    let count = one.waiting(rt, 0)?;
-    drain_by_helper(rt, alloc, &other, count);
+    drain_by_helper(rt, alloc, &one, &other);
     are_same(rt, &one, &mut first, &other, &mut second)
 }
 
 #[test]
 fn a_helper_takes_query_by_query(rt: HostRuntime) -> Result<(), Fail> {
     assert!(rt; helper_answers_alike(&rt, rt.alloc())?);
+    Ok(())
+}
+
+/// Returns whether a connection's drain, which has more turns than one step, answers as a drain
+/// turn by turn.
+fn connection_answers_alike<R: Threads + Wait + Sync>(
+    rt: &R,
+    alloc: Global,
+) -> Result<bool, Fault> {
+    let (one, mut first) = queried(rt, alloc)?;
+    let (other, mut second) = queried(rt, alloc)?;
+    for start in [0, 300, 600] {
+        fill(rt, alloc, &one, &mut first, start)?;
+        fill(rt, alloc, &other, &mut second, start)?;
+    }
+    one.drain_some(rt, 256, MANY)?;
+    if !is_drain_answered(
+        rt,
+        alloc,
+        &other,
+        &mut second,
+        b"{\"ok\":true}\n".as_slice(),
+    ) {
+        return Ok(false);
+    }
+    if other.has_ready(rt) || !has_as_many(rt, &one, &other) {
+        return Ok(false);
+    }
+    are_same(rt, &one, &mut first, &other, &mut second)
+}
+
+#[test]
+fn a_long_drain_of_a_connection_answers_as_a_drain(rt: HostRuntime) -> Result<(), Fail> {
+    assert!(rt; connection_answers_alike(&rt, rt.alloc())?);
     Ok(())
 }
 
@@ -235,6 +279,9 @@ fn turn_stays_out<R: Threads + Wait + Sync>(rt: &R, alloc: Global) -> Result<boo
         return Ok(false);
     };
     other.drain_by_query(rt, 256, 4)?;
+    if other.drain_some_by_query(rt, 256, MANY, 4)? {
+        return Ok(false);
+    }
     let Ok(done) = turn.run(alloc) else {
         return Ok(false);
     };

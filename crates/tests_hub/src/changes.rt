@@ -19,6 +19,7 @@ enum Call {
     SettleAndForget,
     Finish,
     Drain,
+    DrainByQuery,
     DrainSome,
     DrainSomeAlone,
     DrainSomeByQuery,
@@ -32,7 +33,7 @@ enum Call {
 }
 
 /// Lists the calls that count.
-const CHANGES: [Call; 12] = [
+const CHANGES: [Call; 13] = [
     Call::Heartbeat,
     Call::HeartbeatNamed,
     Call::Drop,
@@ -40,6 +41,7 @@ const CHANGES: [Call; 12] = [
     Call::SettleAndForget,
     Call::Finish,
     Call::Drain,
+    Call::DrainByQuery,
     Call::DrainSome,
     Call::DrainSomeAlone,
     Call::DrainSomeByQuery,
@@ -85,6 +87,7 @@ fn make<R: Threads + Wait + Sync>(
         Call::SettleAndForget => Ok(hub.settle_and_forget(rt, seat, 1, false)),
         Call::Finish => run_a_turn(rt, alloc, hub, true),
         Call::Drain => Ok(hub.drain(rt, 256).is_ok()),
+        Call::DrainByQuery => Ok(hub.drain_by_query(rt, 256, 4).is_ok()),
         Call::DrainSome => hub.drain_some(rt, 256, 1),
         Call::DrainSomeAlone => hub.drain_some_alone(rt, 256, 1),
         Call::DrainSomeByQuery => hub.drain_some_by_query(rt, 256, 1, 4),

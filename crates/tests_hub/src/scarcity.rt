@@ -57,7 +57,7 @@ fn abandon_some<R: Wait>(rt: &R, hub: &Hub, first: u64, behind: u64) -> u64 {
 }
 
 // Returns whether a connection's drain is answered so.
-fn is_drain_answered<R: Threads + Wait + Sync>(
+pub(crate) fn is_drain_answered<R: Threads + Wait + Sync>(
     rt: &R,
     alloc: Global,
     hub: &Hub,
@@ -81,8 +81,8 @@ fn answered_queries<R: Wait>(rt: &R, hub: &Hub) -> u64 {
     answered
 }
 
-// Returns whether drains are refused while all turns are out: by pools of one and of four, and over
-// a connection.
+// Returns whether drains are refused while all turns are out: by pools of one and of four, query by
+// query, and over a connection.
 fn are_refused<R: Threads + Wait + Sync>(
     rt: &R,
     alloc: Global,
@@ -91,6 +91,8 @@ fn are_refused<R: Threads + Wait + Sync>(
 ) -> bool {
     Pool::drain(rt, alloc, hub, &NoGate, 1, 256) == Err(Fault::TooManyLeases)
         && Pool::drain(rt, alloc, hub, &NoGate, 4, 256) == Err(Fault::TooManyLeases)
+        && hub.drain_by_query(rt, 256, 4) == Err(Fault::TooManyLeases)
+        && hub.drain_some_by_query(rt, 256, 1_024, 4) == Err(Fault::TooManyLeases)
         && is_drain_answered(
             rt,
             alloc,

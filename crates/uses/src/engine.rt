@@ -20,6 +20,7 @@ pub(crate) fn show_calls<R: Print + Threads + Sync>(rt: &R, alloc: Global) -> Re
     a_drain_takes_query_by_query(rt, alloc)?;
     a_drain_takes_some_turns_of_each_query(rt, alloc)?;
     a_gap_costs_few_turns(rt, alloc)?;
+    a_gap_costs_few_turns_query_by_query(rt, alloc)?;
     a_take_returns_the_first_answers(rt, alloc)?;
     a_take_returns_a_flat_list(rt, alloc)?;
     a_peek_takes_nothing(rt, alloc)?;
@@ -229,6 +230,23 @@ const STILL: [&str; 5] = [
     "Select Istream(a, Count(*)) From S [Range 10] Group By a",
     "Select Istream(x.a) From S [Range 10] x, S [Now] y Where x.a = y.a",
 ];
+
+/// Shows that a gap costs few turns query by query, also under Distinct.
+///
+/// The operator of Distinct has a lower slope than its window, which would run ahead turn by turn.
+/// Query by query it goes instant by instant. So both rows leave their window, and the rest of the
+/// gap is passed, within 64 turns.
+fn a_gap_costs_few_turns_query_by_query<R: Print + Threads + Sync>(
+    rt: &R,
+    alloc: Global,
+) -> Result<(), Stop> {
+    let mut engine = engine_with(alloc, "Select Istream(Distinct a) From S [Range 10]")?;
+    fill(alloc, &mut engine)?;
+    engine.heartbeat(0, 50_000)?;
+    let more = engine.drain_some_by_query(rt, 256, 64, 1)?;
+    println!(rt; "a_gap_costs_few_turns_query_by_query: more {more}")?;
+    Ok(())
+}
 
 /// Shows that a gap costs few turns, however long it is.
 ///

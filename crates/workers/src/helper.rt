@@ -1,4 +1,5 @@
-//! Runs turns in a background worker: small ones in place, full ones outside the lock.
+//! Runs turns in a background worker: small ones in place, many query by query, full ones outside
+//! the lock.
 ghost use Rattle.reference.specs.World.{IsTurnSize};
 ghost use Rattle.hub.specs.Steps.{HasEnded, PlainLocked};
 
@@ -11,10 +12,11 @@ use std::sync::Wait;
 use std::thread::Threads;
 
 /// Limits the turns that run in place before others may have the lock.
-const TURNS: u64 = 64;
+pub const TURNS_IN_PLACE: u64 = 64;
 
-/// Limits the turns that run in place query by query before others may have the lock.
-const TURNS_BY_QUERY: u64 = 1_024;
+/// Limits the turns that run in place query by query before others may have the lock. Others wait
+/// as long. But the step looks at each query, so it has several turns for each of the 256.
+pub const TURNS_BY_QUERY: u64 = 1_024;
 
 /// Limits the sizes that a turn is tried with: 1,024 rows, 512, and so on down to 1.
 const SIZES: u32 = 11;
@@ -95,7 +97,7 @@ fn run_in_place<R: Threads + Wait + Sync>(
     rows: u32,
     threads: usize,
 ) -> Result<bool, Fault> {
-    if !hub.drain_some_alone(rt, rows, TURNS)? {
+    if !hub.drain_some_alone(rt, rows, TURNS_IN_PLACE)? {
         return Ok(false);
     }
     hub.drain_some_by_query(rt, rows, TURNS_BY_QUERY, threads)
@@ -103,7 +105,7 @@ fn run_in_place<R: Threads + Wait + Sync>(
 
 // Runs turns outside the lock while they are full. Returns `false` if it could not go on.
 fn run_full_turns<R: Wait, G: Gate>(rt: &R, alloc: Global, hub: &Hub, gate: &G, rows: u32) -> bool {
-    for _ in 0..TURNS {
+    for _ in 0..TURNS_IN_PLACE {
         match lease_and_run(rt, alloc, hub, gate, rows) {
             Outcome::Full => {}
             Outcome::Small => return true,

@@ -8,6 +8,6 @@ mod want;
 mod worker;
 
 pub use gate::{Gate, NoGate};
-pub use helper::help;
+pub use helper::{TURNS_BY_QUERY, TURNS_IN_PLACE, help};
 pub use pool::{MAX_WORKERS, Pool};
 pub use worker::{bring_back, work};

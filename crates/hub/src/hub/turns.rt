@@ -144,14 +144,15 @@ impl Hub {
     /// Drains some turns in place, under the lock, query by query: at most `turns` turns of at most
     /// `rows` rows. It has at most `threads` threads if they pay, and they end before this returns.
     /// Returns whether an operator may still take something. Call it until it answers `false`:
-    /// other calls get the lock in between.
+    /// other calls get the lock in between. With `turns` 0 it runs none; it counts as a change
+    /// nevertheless.
     ///
     /// It is for much work, and looks at each query. It wakes nobody if more is ready: the caller
     /// goes on. If it fails, it wakes all.
     ///
     /// # Errors
-    /// Those of `drain`. `TooManyLeases` only if an operator may take something and fewer than
-    /// `turns` turns have run.
+    /// Those of `drain`. `TooManyLeases` and `OutOfMemory` only if an operator could take
+    /// something, and not after `turns` turns. Of several queries each may break.
     ///
     /// Example: `a_hub_drains_in_threads` in crates/uses/src/hubs.rt.
     pub fn drain_some_by_query<R: Threads + Wait + Sync>(

@@ -90,11 +90,12 @@ impl Locked {
 
     /// Drains some turns in place, as `Engine::drain_some_by_query` does: at most `turns` turns of
     /// at most `rows` rows. It has at most `threads` threads if they pay. Returns whether an
-    /// operator may still take something. Turns that are out stay out.
+    /// operator may still take something. Turns that are out stay out. With `turns` 0 it only
+    /// looks.
     ///
     /// # Errors
-    /// Those of `drain`. `TooManyLeases` only if an operator may take something and fewer than
-    /// `turns` turns have run.
+    /// Those of `drain`. `TooManyLeases` and `OutOfMemory` only if an operator could take
+    /// something, and not after `turns` turns. Of several queries each may break.
     #[tactic(auto, unfolding(crate::specs::Steps::engine_at), using(crate::proofs::ReadyLemmas::idle_by_query))]
     pub fn drain_some_by_query<R: Threads + Sync>(
         &mut self,

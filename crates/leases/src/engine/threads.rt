@@ -1,10 +1,12 @@
 //! Drains in threads.
-ghost use Rattle.std.specs.Prelude.{◌≡◌, ◌≢◌, ◌<◌, ◌≤◌, ◌+◌, Err, None, Ok, OnOk, false, true};
+ghost use Rattle.std.specs.Prelude.{◌≡◌, ◌≢◌, ◌<◌, ◌≤◌, ◌+◌, Err, IfErr, None, Ok, OnOk, false};
+ghost use Rattle.std.specs.Prelude.{true};
 ghost use Rattle.reference.specs.World.{Drains, IsPlenty, drain_step};
-ghost use Rattle.reference.specs.declared.fault.Fault.TheVariants.{OutOfMemory, TooManyLeases};
+ghost use Rattle.reference.specs.declared.fault.Fault.TheVariants.{BadLimit, OutOfMemory};
+ghost use Rattle.reference.specs.declared.fault.Fault.TheVariants.{TooManyLeases};
 ghost use Rattle.run_queue.specs.Slots.{first_of};
 ghost use Rattle.laws_engine.specs.Promises.{HasAllWaiting, KeepsItsPromises};
-ghost use Rattle.leases.specs.ByQuery.{RunsByQuery};
+ghost use Rattle.leases.specs.ByQuery.{HasRunOutBelow, RunsByQuery};
 ghost use Rattle.leases.specs.Drains.{LeavesOthers, as_drained};
 ghost use Rattle.leases.specs.Shown.{engine_in, world_in};
 ghost use Rattle.leases.specs.Turns.{HasReady};
@@ -55,15 +57,18 @@ impl Engine {
     /// Runs at most `turns` turns in place, query by query. Each ready query gets an equal share of
     /// them, in threads as `drain_by_query` has them. What is left of the turns then runs as
     /// `drain_some` does. Returns whether an operator may still take something: if so, all `turns`
-    /// turns have run, each with one number. A query that passes instants at which it has nothing
-    /// to do counts as one turn. `rows` limits the rows of each turn: 1 to 1,024.
+    /// turns have run, each with one number. A pass over instants at which a query has nothing to
+    /// do counts as one turn. `rows` limits the rows of each turn: 1 to 1,024.
     ///
     /// Call it until it answers `false`, and let others have the engine in between. It is for much
-    /// work: it looks at each query that reads a stream. If a turn is out, or only one query is
-    /// ready, it is `drain_some`.
+    /// work: it looks at each query that reads a stream. If a turn is out, it is `drain_some`. With
+    /// `turns` 0 it only looks.
     ///
     /// # Errors
-    /// Those of `drain_some`. The turns of other queries stay.
+    /// `BadLimit` if `rows` is out of range; then nothing has changed. `TooManyLeases` if 64 turns
+    /// are out or all numbers of turns were given. `OutOfMemory` when out of memory: a turn did
+    /// nothing, or queries broke, perhaps several. Both come only if an operator could take
+    /// something, and before `turns` turns have run or within them. All other turns stay.
     ///
     /// Example: `a_drain_takes_some_turns_of_each_query` in crates/uses/src/engine.rt.
     pub fn drain_some_by_query<R: Threads + Sync>(
@@ -85,6 +90,10 @@ impl Engine {
         ensures all { result ≡ Ok false → HasAllWaiting (engine_in self.new) }
         ensures fewer { result ≡ Err TooManyLeases
             → (engine_in self.new).next < (engine_in self.old).next + turns }
+        ensures below { result ≡ Err OutOfMemory → HasRunOutBelow rows
+            ((engine_in self.old).next + turns) (engine_in self.old) (engine_in self.new) }
+        ensures looks { turns ≡ 0 → (engine_in self.new ≡ engine_in self.old)
+            × IfErr result (λ fault. fault ≡ BadLimit) }
         ensures others { LeavesOthers (engine_in self.old) (as_drained result)
             (engine_in self.new) }
         ensures machine { (engine_in self.new).machine ≡ (engine_in self.old).machine }

@@ -1,12 +1,15 @@
 //! Drains each query by itself, in this thread or in several.
-ghost use Rattle.std.specs.Prelude.{◌≡◌, ◌≢◌, ◌+◌, ◌*◌, ◌++◌, ◌<◌, ◌≤◌, ◌∷◌, ℕ, Err, IfOk, IfSome};
-ghost use Rattle.std.specs.Prelude.{List, None, Ok, OnErr, OnOk, [], false, length, set, true};
-ghost use Rattle.reference.specs.declared.fault.Fault.TheVariants.{OutOfMemory, TooManyLeases};
+ghost use Rattle.std.specs.Prelude.{◌≡◌, ◌≢◌, ◌+◌, ◌*◌, ◌++◌, ◌<◌, ◌≤◌, ◌∷◌, ℕ, Err, IfErr, IfOk};
+ghost use Rattle.std.specs.Prelude.{IfSome, List, None, Ok, OnErr, OnOk, [], false, length, set};
+ghost use Rattle.std.specs.Prelude.{true};
+ghost use Rattle.reference.specs.declared.fault.Fault.TheVariants.{BadLimit, OutOfMemory};
+ghost use Rattle.reference.specs.declared.fault.Fault.TheVariants.{TooManyLeases};
 ghost use Rattle.run_queue.specs.Slots.{first_of};
 ghost use Rattle.laws_engine.specs.Engines.{Dropped, PlainEngine, remains_at};
 ghost use Rattle.leases.specs.Applied.{GivesNothing, with_remains};
 ghost use Rattle.leases.specs.Asked.{IsRunningAt};
-ghost use Rattle.leases.specs.ByQuery.{HaveComeHome, RunsByQuery, SomeHaveFailed, SomeWereDone};
+ghost use Rattle.leases.specs.ByQuery.{HasRunOutBelow, HaveComeHome, RunsByQuery, SomeHaveFailed};
+ghost use Rattle.leases.specs.ByQuery.{SomeWereDone};
 ghost use Rattle.leases.specs.Drains.{LeavesOthers, as_drained};
 ghost use Rattle.leases.specs.Jobs.{AreJobsBelow, AreLent, AreNewJobs, AreOut, HaveFewTurns};
 ghost use Rattle.leases.specs.Jobs.{IsBare, IsQuota};
@@ -33,7 +36,8 @@ use std::thread::Threads;
 /// To start and to end a thread costs as much as tens of rows.
 const ROWS_OF_A_THREAD: u64 = 1_024;
 
-/// Says how many windows may be looked at for each turn that has run.
+/// Says how many windows may be looked at for each turn that has run. A look at an idle query costs
+/// about a quarter of a small turn.
 const LOOKS_OF_A_TURN: u64 = 4;
 
 impl State {
@@ -58,13 +62,13 @@ impl State {
         self.run_turns(rows)
     }
 
-    /// Returns after how many turns it pays to look for the ready queries, at the cost of a look at
-    /// each window.
+    /// Returns after how many turns it pays to look for the ready queries. That costs a look at
+    /// each window, and at each operator of its query up to the first that is ready.
     fn few_turns(&self) -> u64 {
         self.readers.len() as u64 / LOOKS_OF_A_TURN
     }
 
-    /// Does so in at most so many threads if they pay.
+    /// Drains as `drain` does, in at most so many threads if they pay.
     pub(crate) fn drain_by_query<R: Threads + Sync>(
         &mut self,
         rt: &R,
@@ -109,6 +113,9 @@ impl State {
         ensures last { result ≡ Ok true → self.new.next ≡ self.old.next + turns }
         ensures idle { result ≡ Ok false → first_of (engine_in self.new).slots ≡ None }
         ensures fewer { result ≡ Err TooManyLeases → self.new.next < self.old.next + turns }
+        ensures below { result ≡ Err OutOfMemory → HasRunOutBelow rows (self.old.next + turns)
+            (engine_in self.old) (engine_in self.new) }
+        ensures looks { turns ≡ 0 → IfErr result (λ fault. fault ≡ BadLimit) }
         ensures whole { IsWhole self.old → result ≢ Err OutOfMemory → IsWhole self.new }
         ensures sound { IsSound self.new }
     {
@@ -132,7 +139,7 @@ impl State {
         ensures others { (engine_in self.new).leases ≡ (engine_in self.old).leases }
         ensures sound { IsSound self.new }
     {
-        let Some(mut jobs) = self.jobs_apart() else {
+        let Some(mut jobs) = self.jobs_to_lend(u64::MAX) else {
             return Ok(());
         };
         let quota = Quota {
@@ -155,8 +162,8 @@ impl State {
         run_all(&self.streams, &self.registered, self.alloc, quota, jobs);
     }
 
-    /// Runs at most so many turns of the ready queries, in at most so many threads if they pay. Of
-    /// the turns each query has an equal share. It does so only if no turn is out.
+    /// Runs at most so many turns of the ready queries, in at most so many threads if they pay.
+    /// Each query has an equal share of the turns. It does so only if no turn is out.
     ///
     /// # Errors
     /// `AllocError` when out of memory: a query broke.
@@ -175,7 +182,7 @@ impl State {
         ensures others { (engine_in self.new).leases ≡ (engine_in self.old).leases }
         ensures sound { IsSound self.new }
     {
-        let Some(mut jobs) = self.jobs_apart() else {
+        let Some(mut jobs) = self.jobs_to_lend(turns) else {
             return Ok(());
         };
         let quota = Quota::of_each(rows, turns, jobs.len());
@@ -206,9 +213,9 @@ impl State {
         );
     }
 
-    /// Lists the jobs of the ready queries, if no turn is out and there are any. There are none if
-    /// memory for the list is refused.
-    fn jobs_apart(&self) -> Option<Vec<Job>>
+    /// Lists the jobs of the ready queries, one or more and at most so many, if no turn is out.
+    /// There are none if memory for the list is refused.
+    fn jobs_to_lend(&self, most: u64) -> Option<Vec<Job>>
         requires { IsSound self.now }
         ensures returned { IfSome result (λ jobs. (engine_in self.now).leases ≡ []) }
         ensures some { IfSome result (λ jobs. 0 < length jobs.items) }
@@ -217,7 +224,7 @@ impl State {
         if self.leases.len() > 0 {
             return None;
         }
-        let jobs = self.jobs().ok()?;
+        let jobs = self.jobs(most).ok()?;
         if jobs.is_empty() {
             return None;
         }
@@ -241,15 +248,17 @@ impl State {
         u64::try_from(waiting.saturating_sub(ticks as u128)).unwrap_or(u64::MAX)
     }
 
-    /// Lists the jobs of the ready queries, as far as numbers are left for their turns.
+    /// Lists the jobs of the ready queries, at most so many, and as far as numbers are left for
+    /// their turns.
     ///
     /// # Errors
     /// `AllocError` when out of memory.
-    fn jobs(&self) -> Result<Vec<Job>, AllocError>
+    fn jobs(&self, most: u64) -> Result<Vec<Job>, AllocError>
         requires { IsSound self.now }
         ensures { IfOk result (λ jobs. AreNewJobs self.now jobs.items) }
     {
-        let room = (LEASE_NUMBERS - self.next) / MOST_TURNS;
+        let numbered = (LEASE_NUMBERS - self.next) / MOST_TURNS;
+        let room = numbered.min(most);
         let mut jobs = Vec::new(self.alloc);
         let mut next: u64 = 0;
         for place in 0..self.readers.len() {

@@ -24,7 +24,7 @@ use run_queue::Slot;
 use std::alloc::Global;
 use stream_store::Streams;
 
-/// Limits the turns of a query that are reckoned with: many more than any drain has.
+/// Limits the turns of a job: numbers are kept for so many, many more than any drain has.
 pub(crate) const MOST_TURNS: u64 = 1 << 40;
 
 /// Limits what a query does by itself.
@@ -120,9 +120,10 @@ fn run_remains(
 /// Runs turns of a query in place until none of its operators may take anything, or it has run as
 /// many as it may. Where it has nothing to do at more than a few instants, it passes these instead.
 ///
-/// It goes instant by instant: no operator runs ahead of those above it. So after the turns of the
-/// root nothing waits between operators, and a gap can be passed, whatever the slopes are. A pass
-/// is tried then, and at the start.
+/// It goes instant by instant: no operator takes a later instant while another can take an earlier
+/// one. So after the turns of the root nothing waits between operators, whatever the slopes are,
+/// unless one of several sources lags. Then a gap can be passed. A pass is tried there, and at the
+/// start.
 fn run_alone(
     query: &mut RunningQuery,
     streams: &Streams,
@@ -263,7 +264,7 @@ fn first_ready(query: &RunningQuery, streams: &Streams, registration: &Registrat
     for operator in 0..query.len() {
         if let Some(next) = query.ready(streams, operator) {
             let slot = Slot::new(slope_of(registration, operator), Some(next), 0, operator);
-            first = Some(first_of(slot, &first));
+            first = Some(earlier_of(slot, &first));
         }
     }
     first
@@ -271,7 +272,7 @@ fn first_ready(query: &RunningQuery, streams: &Streams, registration: &Registrat
 
 /// Returns the one of two slots that waits for the earlier instant, or the other one if both wait
 /// for the same.
-fn first_of(slot: Slot, other: &Option<Slot>) -> Slot
+fn earlier_of(slot: Slot, other: &Option<Slot>) -> Slot
     ensures { (result ≡ slot) ⊎ (other.now ≡ Some result) }
 {
     match other {

@@ -1,8 +1,10 @@
 -- As a drain of some turns; something has run where something was.
-use Rattle.std.proofs.Common.{◌≡◌, ◌≢◌, ◌<◌, ◌∙◌, OnOk, ap, subst}
+use Rattle.std.proofs.Common.{◌≡◌, ◌≢◌, ◌<◌, ◌≤◌, ◌+◌, ◌∙◌, IfErr, OnOk, ap, arith, subst}
+use Rattle.reference.specs.declared.fault.Fault.TheVariants.{BadLimit}
 use Rattle.laws_engine.proofs.IdleLemmas.{idle_waits}
 use Rattle.laws_engine.proofs.PromiseLemmas.{keeps_its_promises}
-use Rattle.leases.proofs.ByQueryLemmas.{by_query_gives, by_query_machine, some_by_query}
+use Rattle.leases.proofs.ByQueryLemmas.{by_query_gives, by_query_machine, none_by_query, some_by_query}
+use Rattle.leases.specs.ByQuery.{HasRunOutBelow}
 use Rattle.leases.proofs.NumberLemmas.{spent}
 use Rattle.leases.specs.Drains.{as_drained}
 use Rattle.leases.specs.Shown.{engine_in}
@@ -31,3 +33,16 @@ returns-clause-spent g c =
 
 pub returns-clause-promises : goal.returns-clause-promises
 returns-clause-promises g c = keeps_its_promises _ c.drain_some_by_query.ensures.sound.good
+
+pub returns-clause-below : goal.returns-clause-below
+returns-clause-below g c = λ out.
+    subst (λ s. HasRunOutBelow c.args.rows (s.next + c.args.turns) (engine_in s) (engine_in c.drain_some_by_query.new.self)) c.self.view_is (c.drain_some_by_query.ensures.below out)
+
+pub returns-clause-looks : goal.returns-clause-looks
+returns-clause-looks g c = λ none.
+    let refused : IfErr c.drain_some_by_query.result (λ f. f ≡ BadLimit) = c.drain_some_by_query.ensures.looks none in
+    let most : c.drain_some_by_query.new.self.next ≤ c.self.inside.state.next = omega (arith, none, c.drain_some_by_query.ensures.most) in (
+      subst (λ s. engine_in c.drain_some_by_query.new.self ≡ engine_in s) c.self.view_is
+          (none_by_query (engine_in c.self.inside.state) (engine_in c.drain_some_by_query.new.self) c.args.rows c.drain_some_by_query.result c.drain_some_by_query.ensures.runs most refused),
+      refused,
+    )

@@ -1,11 +1,11 @@
 -- Query by query, and then turn by turn, up to the same number.
-use Rattle.std.proofs.Common.{◌≡◌, ◌∙◌, Err, arith, inl, sym}
+use Rattle.std.proofs.Common.{◌≡◌, ◌≤◌, ◌+◌, ◌∙◌, Err, arith, inl, sym}
 use Rattle.reference.specs.declared.fault.Fault.TheVariants.{OutOfMemory}
 use Rattle.leases.specs.ByQuery.{RunsByQuery}
 use Rattle.leases.specs.Drains.{as_drained}
 use Rattle.leases.specs.Shown.{engine_in}
-use Rattle.leases.proofs.ByQueryLemmas.{drained, refused_by_query, stays_whole}
-use Rattle.leases.proofs.DrainLemmas.{never_full, refused_drain, same_err}
+use Rattle.leases.proofs.ByQueryLemmas.{done_gives, drained, failed_takes, out_below, refused_by_query, stays_whole}
+use Rattle.leases.proofs.DrainLemmas.{limit_is, never_full, never_out, only_looked, refused_drain, same_err}
 use Rattle.leases.proofs.state.State.drain_some_by_query.Goals as goal
 
 pub returns-in-Some-clause-runs : goal.returns-in-Some-clause-runs
@@ -33,3 +33,26 @@ returns-clause-runs g c =
 pub returns-clause-whole : goal.returns-clause-whole
 returns-clause-whole g c = λ whole had.
     c.run_until.ensures.whole (stays_whole c.args.rows (engine_in c.args.self.now) (engine_in c.run_by_query.new.self) c.requires.good whole c.run_by_query.ensures.others c.in_ok-run_by_query.ensures.ok) had
+
+pub returns-in-Some-clause-below : goal.returns-in-Some-clause-below
+returns-in-Some-clause-below g c = λ out. absurd (never_out c.args.rows c.in-Some.fault c.in-Some.ensures.first out)
+
+pub returns-in-Some-clause-looks : goal.returns-in-Some-clause-looks
+returns-in-Some-clause-looks g c = λ none. limit_is c.args.rows c.in-Some.fault c.in-Some.ensures.first
+
+pub returns-in_err-run_by_query-clause-below : goal.returns-in_err-run_by_query-clause-below
+returns-in_err-run_by_query-clause-below g c = λ out. inl c.in_err-run_by_query.ensures.err
+
+pub returns-in_err-run_by_query-clause-looks : goal.returns-in_err-run_by_query-clause-looks
+returns-in_err-run_by_query-clause-looks g c = λ none.
+    absurd (omega (arith, none, c.in_err-run_by_query.ensures.most, failed_takes c.args.rows (engine_in c.args.self.now) (engine_in c.run_by_query.new.self) c.in_err-run_by_query.ensures.err))
+
+pub returns-clause-below : goal.returns-clause-below
+returns-clause-below g c = λ out.
+    out_below c.args.rows (c.args.self.now.next + c.args.turns) (engine_in c.args.self.now) (engine_in c.run_by_query.new.self) (engine_in c.run_until.new.self) c.run_by_query.ensures.sound.good c.in_ok-run_by_query.ensures.ok
+    (let h = c.run_until.ensures.below out in (h.0, (h.1.0, (h.1.1.0, omega (arith, h.1.1.1, c.saturating_add-until.ensures)))))
+
+pub returns-clause-looks : goal.returns-clause-looks
+returns-clause-looks g c = λ none.
+    let taken : c.args.self.now.next ≤ c.run_by_query.new.self.next = done_gives c.args.rows (engine_in c.args.self.now) (engine_in c.run_by_query.new.self) c.in_ok-run_by_query.ensures.ok in
+    only_looked c.run_until.result c.run_by_query.new.self.next c.saturating_add-until.result c.run_until.ensures.looks (omega (arith, none, taken, c.saturating_add-until.ensures))

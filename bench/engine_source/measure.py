@@ -10,6 +10,7 @@ import re
 import subprocess
 import sys
 import time
+from concurrent.futures import ThreadPoolExecutor
 
 ROWS = 8
 SPANS = (10, 100, 1_000, 10_000)
@@ -32,24 +33,40 @@ MORE = {
              "C [Range {span}] Where A.k = B.k And B.k = C.k",
 }
 STREAMS = {"join": "AB", "three": "ABC"}
+# How rows come: a name, the instants of a line, whether by rising instants, rows of an instant, and
+# the instants of the longer run.
+WAYS = (
+    ("shuffled", STRIDE, False, ROWS, 6_400),
+    ("rising", STRIDE, True, ROWS, 6_400),
+    ("one", STRIDE, True, 1, 25_600),
+    ("instants", 1, True, ROWS, 1_600),
+)
+# The shares of the program by hand to reach, by instructions.
+GOALS = {
+    "shuffled": {"filter": 0.4, "range": 0.65, "groups": 0.75, "join": 0.55, "distinct": 0.45,
+                 "slide": 0.75, "three": 0.4},
+    "rising": {},
+    "one": {"filter": 0.35, "range": 0.45, "groups": 0.5, "join": 0.4, "distinct": 0.4},
+    "instants": {"filter": 0.35, "range": 0.6, "groups": 0.7, "join": 0.5, "distinct": 0.45},
+}
 
 
-def keys_of(kind, span):
+def keys_of(kind, span, each=ROWS):
     """How many keys there are: as many as a window has rows where an answer needs a key that is new
     or met, so that answers stay as many."""
-    return ROWS * (span + 1) if kind in ("join", "three", "distinct") else 64
+    return each * (span + 1) if kind in ("join", "three", "distinct") else 64
 
 
 def declared(streams):
     return [{"op": "stream", "name": name, "columns": ["k", "v"], "from": 0} for name in streams]
 
 
-def script(path, kind, span, instants, stride=STRIDE, rising=False):
-    """Writes the script of a query, and gives how many rows it has. An instant has 8 rows of each
-    stream. The rows of a line come in any order, or by rising instants."""
+def script(path, kind, span, instants, stride=STRIDE, rising=False, each=ROWS):
+    """Writes the script of a query, and gives how many rows it has. An instant has so many rows of
+    each stream. The rows of a line come in any order, or by rising instants."""
     draw = random.Random(1)
     streams = STREAMS.get(kind, "A")
-    keys = keys_of(kind, span)
+    keys = keys_of(kind, span, each)
     lines = declared(streams)
     text = {**TEXTS, **MORE}[kind].format(span=span)
     lines.append({"op": "query", "name": "q", "text": text})
@@ -60,7 +77,7 @@ def script(path, kind, span, instants, stride=STRIDE, rising=False):
                 [at, draw.randrange(keys),
                  None if draw.randrange(16) == 0 else draw.randrange(-1000, 1000)]
                 for at in range(first, last + 1)
-                for _ in range(ROWS)
+                for _ in range(each)
             ]
             if not rising:
                 draw.shuffle(rows)
@@ -70,7 +87,7 @@ def script(path, kind, span, instants, stride=STRIDE, rising=False):
     with open(path, "w") as out:
         for line in lines:
             out.write(json.dumps(line, separators=(",", ":")) + "\n")
-    return instants * ROWS * len(streams)
+    return instants * each * len(streams)
 
 
 def run(words, script_path, replies):
@@ -99,15 +116,22 @@ def peak(words, script_path, replies):
         return int(text.read()) * 1024
 
 
+# What went wrong in the run: replies that differ, and goals that are missed.
+differences: list[str] = []
+missed: list[str] = []
+
+
 def compare(what, first, second):
     """Says where the replies of two runs differ."""
     with open(first) as one, open(second) as other:
         for number, (mine, theirs) in enumerate(zip(one, other), 1):
             if mine != theirs:
+                differences.append(what)
                 print(f"{what}: THE REPLIES DIFFER in line {number}:\n  {mine[:200].rstrip()}\n"
                       f"  {theirs[:200].rstrip()}", flush=True)
                 return
         if one.read() or other.read():
+            differences.append(what)
             print(f"{what}: THE REPLIES DIFFER in their number", flush=True)
 
 
@@ -189,25 +213,35 @@ class Bench:
 
     def instructions(self):
         """Instructions a row at span 100, by the difference of two runs."""
-        few, more = 640, 6_400
-        print(f"{'query':<9} {'lines':>10} {'engine':>8} {'by hand':>8} {'share':>6} "
+        print(f"{'query':<9} {'lines':>10} {'engine':>8} {'by hand':>8} {'share':>6} {'goal':>5} "
               f"{'tested':>8} {'share':>6}   instructions a row, span 100")
-        for kind in (*TEXTS, *MORE):
-            for how, stride, rising in (("shuffled", STRIDE, False), ("rising", STRIDE, True),
-                                        ("instants", 1, True)):
-                figures, scale = [], 1 if stride > 1 else 4
-                for words in ([self.engine], [self.plain, kind, "100"], [self.tested, kind, "100"]):
-                    said = []
-                    for instants in (few // scale, more // scale):
-                        rows = script(self.at("script"), kind, 100, instants, stride, rising)
-                        count = counted(words, self.at("script"), self.at("replies"),
-                                        self.at("kept"))
-                        said.append((rows, count))
-                    (rows, count), (rows_more, count_more) = said
-                    figures.append((count_more - count) / (rows_more - rows))
-                mine, hand, tests = figures
+        ways = [(kind, *way) for kind in (*TEXTS, *MORE) for way in WAYS]
+        with ThreadPoolExecutor(os.cpu_count()) as pool:
+            for (kind, how, *_), (mine, hand, tests) in zip(ways, pool.map(self.of_a_row, ways)):
+                goal = GOALS[how].get(kind)
+                if goal and hand / mine < goal:
+                    missed.append(f"{kind} {how}")
                 print(f"{kind:<9} {how:>10} {mine:>8.0f} {hand:>8.0f} {hand / mine:>6.2f} "
-                      f"{tests:>8.0f} {tests / mine:>6.2f}", flush=True)
+                      f"{goal if goal else '':>5} {tests:>8.0f} {tests / mine:>6.2f}", flush=True)
+
+    def of_a_row(self, way):
+        """The instructions of a row by each of the three programs."""
+        kind, how, stride, rising, each, instants = way
+        said = []
+        for count in (instants // 10, instants):
+            name = self.at(f"{kind}-{how}-{count}")
+            rows = script(name, kind, 100, count, stride, rising, each)
+            programs = {"engine": [self.engine], "hand": [self.plain, kind, "100"],
+                        "tested": [self.tested, kind, "100"]}
+            said.append((rows, [
+                counted(words, name, f"{name}.{which}", f"{name}.kept")
+                for which, words in programs.items()
+            ]))
+            refuse_faults(f"{name}.engine")
+            for which in ("hand", "tested"):
+                compare(f"{kind} {how}, {which}", f"{name}.engine", f"{name}.{which}")
+        (rows, few), (rows_more, more) = said
+        return [(b - a) / (rows_more - rows) for a, b in zip(few, more)]
 
     def reading(self):
         """What the lines alone cost, with no query."""
@@ -314,7 +348,9 @@ def main():
     words = sys.argv[5:]
     if words == ["instructions"]:
         Bench(engine, plain, tested, folder, 1.0).instructions()
-        return
+        if missed:
+            print(f"missed: {', '.join(missed)}")
+        sys.exit(1 if missed or differences else 0)
     bench = Bench(engine, plain, tested, folder, float(words[0]) if words else 1.0)
     start = time.perf_counter()
     bench.small()
@@ -328,6 +364,7 @@ def main():
     bench.many()
     bench.memory()
     print(f"\n{time.perf_counter() - start:.0f} seconds")
+    sys.exit(1 if differences else 0)
 
 
 main()

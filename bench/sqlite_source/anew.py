@@ -119,6 +119,7 @@ def main():
     program, folder, share = sys.argv[1], sys.argv[2], float(sys.argv[3])
     print(f"{'query':<9} {'span':>6} {'rows':>8} {'engine':>10} {'SQLite':>10} {'ratio':>8}"
           "   rows a second")
+    status = 0
     for kind in TEXTS:
         for span in SPANS:
             instants = max(STRIDE, int(30_000 * share))
@@ -130,10 +131,13 @@ def main():
             theirs, theirs_seconds = by_sqlite(kind, span, rows, instants, asked)
             if [it for it in mine if it[0] < asked] != theirs:
                 print(f"{kind} {span}: THE ANSWERS DIFFER")
+                status = 1
             each = ROWS * len(rows)
             rate, other = each * instants / seconds, each * asked / theirs_seconds
             print(f"{kind:<9} {span:>6} {each * instants:>8} {rate:>10.0f} {other:>10.0f} "
                   f"{rate / other:>8.1f}", flush=True)
+    sys.exit(status)
 
 
-main()
+if __name__ == "__main__":
+    main()

@@ -5,6 +5,7 @@ usage: measure.py [--quick] CQLRUN
 
 import json
 import random
+import re
 import subprocess
 import sys
 import tempfile
@@ -38,6 +39,14 @@ MIXED = (
 HEAVY = "Select Istream(k, Min(v), Max(v)) From S0 [Range 100] Where v > {least} Group By k"
 FILTER = "Select Rstream(k, v) From S{stream} [Now] Where v > {least}"
 JOIN = "Select Istream(S0.v, S1.v) From S0 [Range 10], S1 [Range 10] Where S0.k = S1.k"
+
+
+# What runs under the lock and by itself takes most of its instructions, by the names that callgrind
+# shows. None of these calls another. The first is what threads of a drain share among them.
+SHARED = r"leases::state::shares::run_jobs"
+LOCKED = (SHARED, r"hub::locked::Locked::call", r"leases::state::EngineState::bring_home",
+          r"leases::state::EngineState::jobs_to_lend", r"leases::state::EngineState::run_until",
+          r"leases::state::EngineState::run_turns")
 
 
 class Script(NamedTuple):
@@ -133,8 +142,43 @@ def measured(program: str, script: Script, dense: int, rows: int, rounds: int) -
     return times
 
 
+def under_lock(program: str, script: Script, rows: int) -> tuple[float, float]:
+    """Counts the instructions under the lock by one worker: their share of all, and the share that
+    threads of a drain would have among them."""
+    with tempfile.TemporaryDirectory() as name:
+        room = Path(name)
+        lines = (json.dumps(it) for it in requests(script, script.dense[0], rows))
+        (room / "script").write_text("\n".join(lines) + "\n", encoding="utf-8")
+        words = ["valgrind", "--tool=callgrind", f"--callgrind-out-file={room}/counts", program,
+                 "--workers=1"]
+        with (room / "script").open("rb") as read:
+            subprocess.run(words, check=True, stdin=read, stdout=subprocess.DEVNULL,
+                           stderr=subprocess.DEVNULL)
+        said = subprocess.run(["callgrind_annotate", "--inclusive=yes", "--threshold=100",
+                               f"{room}/counts"], check=True, stdout=subprocess.PIPE,
+                              text=True).stdout
+
+    def count(what: str) -> int:
+        found = re.search(rf"^ *([\d,]+) .*{what}\b", said, re.MULTILINE)
+        return int(found[1].replace(",", "")) if found else 0
+
+    whole = count("PROGRAM TOTALS")
+    return sum(map(count, LOCKED)) / whole, count(SHARED) / whole
+
+
+def print_under_lock(program: str, rows: int) -> None:
+    """Prints for each script how much of its instructions is under the lock."""
+    print("\n| Script | Rows an instant | Under the lock | In jobs that threads share |")
+    print("|---|---|---|---|")
+    for script in SCRIPTS:
+        of_script = rows if script.drained == DRAINED else rows // 8
+        locked, shared = under_lock(program, script, of_script)
+        print(f"| {script.name} | {script.dense[0]} | {locked:.2f} | {shared:.2f} |", flush=True)
+
+
 def main() -> int:
-    """Prints a table of all scripts, and says which goals are missed."""
+    """Prints a table of all scripts, and says which goals are missed. Then prints what is under the
+    lock."""
     quick = "--quick" in sys.argv[1:]
     program = sys.argv[-1]
     rounds, part = (1, 8) if quick else (ROUNDS, 1)
@@ -152,6 +196,7 @@ def main() -> int:
             cells = " | ".join(f"{it:.2f}" for it in [*speeds, times.limit(), goal])
             print(f"| {script.name} | {dense} | {cells} | {'yes' if is_met else '**no**'} |",
                   flush=True)
+    print_under_lock(program, ROWS // part // 4)
     return 1 if missed else 0
 
 

@@ -4,7 +4,7 @@ use Rattle.std.specs.List.{slice_get}
 use Rattle.std.proofs.lemmas.Option.{slice_get_past}
 use Rattle.std.proofs.lemmas.List.{drop-append-le, take-append-le, take_all, drop_all, drop-drop, length-take-le, take-append-drop, map-append}
 use Rattle.values.specs.declared.TheConstants.{MAX_COLUMNS}
-use Rattle.answer_rows.specs.declared.Head.{Head}
+use Rattle.answer_rows.specs.declared.AnswerHead.{AnswerHead}
 use Rattle.answer_rows.specs.Rows.{rows_from, AreEnded, starts_at, words_of, rows_in}
 use Rattle.arrayvec.specs.ArrayVec.{ArrayVec}
 
@@ -14,16 +14,16 @@ Values = List (Option ℤ)
 abbrev Answers : Type 0
 Answers = List (ℤ × Values)
 
-pub length-rows_from : (s : ℕ) (hs : List Head) (vs : Values) → length (rows_from s hs vs) ≡ length hs
+pub length-rows_from : (s : ℕ) (hs : List AnswerHead) (vs : Values) → length (rows_from s hs vs) ≡ length hs
 length-rows_from s [] vs = refl
 length-rows_from s (h ∷ hs) vs = ap (λ (n : ℕ). suc n) (length-rows_from h.end hs vs)
 
-pub ends-within : (s : ℕ) (hs : List Head) (c : ℕ) → AreEnded s hs c → s ≤ c
+pub ends-within : (s : ℕ) (hs : List AnswerHead) (c : ℕ) → AreEnded s hs c → s ≤ c
 ends-within s [] c a = omega (arith, a)
 ends-within s (h ∷ hs) c a = omega (arith, a.0, ends-within h.end hs c a.2)
 
 -- ONE ANSWER MORE
-pub AreEnded-more : (s : ℕ) (hs : List Head) (c more : ℕ) (h : Head) → AreEnded s hs c → h.end ≡ c + more → more ≤ MAX_COLUMNS → AreEnded s (hs ++ h ∷ []) (c + more)
+pub AreEnded-more : (s : ℕ) (hs : List AnswerHead) (c more : ℕ) (h : AnswerHead) → AreEnded s hs c → h.end ≡ c + more → more ≤ MAX_COLUMNS → AreEnded s (hs ++ h ∷ []) (c + more)
 AreEnded-more s [] c more h a e few = (omega (arith, a, e), omega (arith, a, e, few), e)
 AreEnded-more s (g ∷ hs) c more h a e few = (a.0, a.1, AreEnded-more g.end hs c more h a.2 e few)
 
@@ -35,7 +35,7 @@ part-more s «end» vs r lo hi =
     ap (λ (v : Values). take («end» - s) v) (drop-append-le s vs r (omega (arith, lo, hi)))
     ∙ take-append-le («end» - s) (drop s vs) r (omega (arith, length-drop s vs))
 
-pub rows_from-more : (s : ℕ) (hs : List Head) (vs r : Values) (h : Head) → AreEnded s hs (length vs) → h.end ≡ length vs + length r
+pub rows_from-more : (s : ℕ) (hs : List AnswerHead) (vs r : Values) (h : AnswerHead) → AreEnded s hs (length vs) → h.end ≡ length vs + length r
     → rows_from s (hs ++ h ∷ []) (vs ++ r) ≡ rows_from s hs vs ++ (h.instant, r) ∷ []
 rows_from-more s [] vs r h a e =
     ap (λ (v : Values). (h.instant, v) ∷ [])
@@ -45,33 +45,33 @@ rows_from-more s (g ∷ hs) vs r h a e =
     (rows_from-more g.end hs vs r h a.2 e)
 
 -- THE ANSWER OF A NUMBER
-pub starts-next : (s : ℕ) (hs : List Head) (n : ℕ) (d : Head) → n < length hs → (get_or hs n d).end ≡ starts_at s hs (suc n)
+pub starts-next : (s : ℕ) (hs : List AnswerHead) (n : ℕ) (d : AnswerHead) → n < length hs → (get_or hs n d).end ≡ starts_at s hs (suc n)
 starts-next s [] n d lt = absurd (omega (arith, lt))
 starts-next s (h ∷ hs) zero d lt = refl
 starts-next s (h ∷ hs) (suc n) d lt = starts-next h.end hs n d (omega (arith, lt))
 
 -- its head, and where its values are
-pub record IsAt (s : ℕ) (hs : List Head) (c n : ℕ) (h : Head) : Type 0 where
+pub record IsAt (s : ℕ) (hs : List AnswerHead) (c n : ℕ) (h : AnswerHead) : Type 0 where
   pub order : starts_at s hs n ≤ h.end
   pub few : h.end ≤ starts_at s hs n + MAX_COLUMNS
   pub within : h.end ≤ c
 
-pub is_at : (s : ℕ) (hs : List Head) (c n : ℕ) (h : Head) → AreEnded s hs c → n < length hs → h ≡ get_or hs n h → IsAt s hs c n h
+pub is_at : (s : ℕ) (hs : List AnswerHead) (c n : ℕ) (h : AnswerHead) → AreEnded s hs c → n < length hs → h ≡ get_or hs n h → IsAt s hs c n h
 is_at s [] c n h a lt e = absurd (omega (arith, lt))
 is_at s (g ∷ hs) c zero h a lt e =
-    let same : h.end ≡ g.end = ap (λ (f : Head). f.end) e in
+    let same : h.end ≡ g.end = ap (λ (f : AnswerHead). f.end) e in
     record { order = omega (arith, same, a.0); few = omega (arith, same, a.1); within = omega (arith, same, ends-within g.end hs c a.2) }
 is_at s (g ∷ hs) c (suc n) h a lt e =
     let more = is_at g.end hs c n h a.2 (omega (arith, lt)) e in
     record { order = more.order; few = more.few; within = more.within }
 
-pub answer-at : (s : ℕ) (hs : List Head) (vs : Values) (n : ℕ) (h : Head) → n < length hs → h ≡ get_or hs n h
+pub answer-at : (s : ℕ) (hs : List AnswerHead) (vs : Values) (n : ℕ) (h : AnswerHead) → n < length hs → h ≡ get_or hs n h
     → slice_get (rows_from s hs vs) n ≡ Some (h.instant, take (h.end - starts_at s hs n) (drop (starts_at s hs n) vs))
 answer-at s [] vs n h lt e = absurd (omega (arith, lt))
-answer-at s (g ∷ hs) vs zero h lt e = ap (λ (f : Head). Some (f.instant, take (f.end - s) (drop s vs))) (sym e)
+answer-at s (g ∷ hs) vs zero h lt e = ap (λ (f : AnswerHead). Some (f.instant, take (f.end - s) (drop s vs))) (sym e)
 answer-at s (g ∷ hs) vs (suc n) h lt e = answer-at g.end hs vs n h (omega (arith, lt)) e
 
-pub no-answer : (s : ℕ) (hs : List Head) (vs : Values) (n : ℕ) → length hs ≤ n → slice_get (rows_from s hs vs) n ≡ None
+pub no-answer : (s : ℕ) (hs : List AnswerHead) (vs : Values) (n : ℕ) → length hs ≤ n → slice_get (rows_from s hs vs) n ≡ None
 no-answer s hs vs n le = slice_get_past (rows_from s hs vs) n (omega (arith, le, length-rows_from s hs vs))
 
 -- one answer more of those in front
@@ -93,7 +93,7 @@ rows-pushed rows new es n at v row more same before is =
 length-part : (s «end» : ℕ) (vs : Values) → s ≤ «end» → «end» ≤ length vs → length (take («end» - s) (drop s vs)) ≡ «end» - s
 length-part s «end» vs lo hi = length-take-le («end» - s) (drop s vs) (omega (arith, lo, hi, length-drop s vs))
 
-pub words-all : (s : ℕ) (hs : List Head) (vs : Values) → AreEnded s hs (length vs) → words_of (rows_from s hs vs) + s ≡ length hs + length hs + length vs
+pub words-all : (s : ℕ) (hs : List AnswerHead) (vs : Values) → AreEnded s hs (length vs) → words_of (rows_from s hs vs) + s ≡ length hs + length hs + length vs
 words-all s [] vs a = omega (arith, a)
 words-all s (h ∷ hs) vs a =
     omega (arith, a.0, words-all h.end hs vs a.2, length-part s h.end vs a.0 (ends-within h.end hs (length vs) a.2))
@@ -102,13 +102,13 @@ words-all s (h ∷ hs) vs a =
 two : (v w : Values) (n : ℕ) → take n v ≡ take n w → drop n v ≡ drop n w → v ≡ w
 two v w n first rest = sym (take-append-drop n v) ∙ ap₂ (λ (a b : Values). a ++ b) first rest ∙ take-append-drop n w
 
-head-same : (g h : Head) → g.instant ≡ h.instant → g.end ≡ h.end → g ≡ h
+head-same : (g h : AnswerHead) → g.instant ≡ h.instant → g.end ≡ h.end → g ≡ h
 head-same g h at «end» = ap₂ (λ (i : ℤ) (e : ℕ). record { instant = i; end = e }) at «end»
 
 first-of : (a b : ℤ × Values) (xs ys : Answers) → a ∷ xs ≡ b ∷ ys → a ≡ b
 first-of a b xs ys e = cc
 
-pub same-parts : (s : ℕ) (hs gs : List Head) (vs ws : Values) → AreEnded s hs (length vs) → AreEnded s gs (length ws)
+pub same-parts : (s : ℕ) (hs gs : List AnswerHead) (vs ws : Values) → AreEnded s hs (length vs) → AreEnded s gs (length ws)
     → rows_from s hs vs ≡ rows_from s gs ws → (hs ≡ gs) × (drop s vs ≡ drop s ws)
 same-parts s [] [] vs ws a b e = (refl, drop_all s vs (omega (arith, a)) ∙ sym (drop_all s ws (omega (arith, b))))
 same-parts s [] (g ∷ gs) vs ws a b e = cc
@@ -127,6 +127,6 @@ same-parts s (h ∷ hs) (g ∷ gs) vs ws a b e =
     let past : s + (h.end - s) ≡ h.end = omega (arith, a.0) in
     let behind : drop (h.end - s) (drop s vs) ≡ drop (h.end - s) (drop s ws) =
     drop-drop (h.end - s) s vs ∙ ap (λ (n : ℕ). drop n vs) past ∙ more.1 ∙ ap (λ (n : ℕ). drop n ws) (sym past) ∙ sym (drop-drop (h.end - s) s ws) in (
-      ap₂ (λ (x : Head) (xs : List Head). x ∷ xs) (head-same h g at ends) more.0,
+      ap₂ (λ (x : AnswerHead) (xs : List AnswerHead). x ∷ xs) (head-same h g at ends) more.0,
       two (drop s vs) (drop s ws) (h.end - s) (part ∙ ap (λ (n : ℕ). take n (drop s ws)) (sym long)) behind,
     )

@@ -3,23 +3,23 @@ use Rattle.std.specs.Prelude.{◌≡◌, ℕ, zero, suc, ℤ, ◌≤◌, ◌+◌
 use Rattle.std.specs.Prelude.{take, drop, map}
 use Rattle.arrayvec.specs.ArrayVec.{ArrayVec}
 use Rattle.values.specs.declared.TheConstants.{MAX_COLUMNS}
-use Rattle.answer_rows.specs.declared.Head.{Head}
+use Rattle.answer_rows.specs.declared.AnswerHead.{AnswerHead}
 
 -- the answers of these heads, whose values these are; the first one's values begin at `start`
-abbrev pub rows_from : ℕ → List Head → List (Option ℤ) → List (ℤ × List (Option ℤ))
+abbrev pub rows_from : ℕ → List AnswerHead → List (Option ℤ) → List (ℤ × List (Option ℤ))
 rows_from start [] values = []
 rows_from start (h ∷ hs) values =
     (h.instant, take (h.end - start) (drop start values)) ∷ rows_from h.end hs values
 
 -- each head ends where the next one's values begin, and the last
 -- one at this end; none has more values than a row may have
-abbrev pub AreEnded : ℕ → List Head → ℕ → Type 0
+abbrev pub AreEnded : ℕ → List AnswerHead → ℕ → Type 0
 AreEnded start [] all = start ≡ all
 AreEnded start (h ∷ hs) all =
     (start ≤ h.end) × (h.end ≤ start + MAX_COLUMNS) × AreEnded h.end hs all
 
 -- where the values of the answer of a number begin
-abbrev pub starts_at : ℕ → List Head → ℕ → ℕ
+abbrev pub starts_at : ℕ → List AnswerHead → ℕ → ℕ
 starts_at start hs zero = start
 starts_at start [] (suc number) = start
 starts_at start (h ∷ hs) (suc number) = starts_at h.end hs number

@@ -1,8 +1,9 @@
 //! Keeps answers of a query in one flat list.
 #![tactic(auto)]
 
-ghost use Rattle.std.specs.Prelude.{◌≡◌, ◌≤◌, ◌+◌, ◌*◌, ◌-◌, ◌^◌, ◌++◌, ◌∷◌, [], ◌↔◌, IfOk, IfSome};
-ghost use Rattle.std.specs.Prelude.{IsTrue, MatchOption, None, OnErr, OnOk, Some, length, min};
+ghost use Rattle.std.specs.Prelude.{◌≡◌, ◌≤◌, ◌<◌, ◌+◌, ◌*◌, ◌-◌, ◌^◌, ◌++◌, ◌∷◌, [], ◌↔◌};
+ghost use Rattle.std.specs.Prelude.{IfOk, IfSome, IsTrue, MatchOption, None, OnErr, OnOk, Some};
+ghost use Rattle.std.specs.Prelude.{length, min};
 ghost use Rattle.std.specs.Prelude.{drop, slice_get, take};
 ghost use Rattle.answer_rows.specs.Rows.{rows_in, starts_at, words_of};
 
@@ -12,7 +13,7 @@ use values::{MAX_COLUMNS, Row, Value};
 
 /// Holds the instant of an answer, and where its values end.
 #[derive(Clone, Copy, PartialEq)]
-struct Head {
+struct AnswerHead {
     /// Holds the answer's instant.
     instant: i64,
     /// Counts the values of this answer and of those before it.
@@ -25,7 +26,7 @@ struct Head {
 #[derive(Drop)]
 pub struct AnswerRows {
     /// Holds the instant of each answer and where its values end, the first answer in front.
-    heads: Vec<Head>,
+    heads: Vec<AnswerHead>,
     /// Holds the answers' values in the same order, one row after the other.
     values: Vec<Value>,
 }
@@ -41,7 +42,7 @@ impl Model for AnswerRows {
     ghost invariant = { λ r. AreEnded 0 r.heads.items (length r.values.items) };
 }
 
-impl Head {
+impl AnswerHead {
     /// Returns the answer's instant.
     fn at(self) -> i64
         ensures { result ≡ self.instant }
@@ -87,7 +88,7 @@ impl AnswerRows {
         self.heads.reserve(1)?;
         self.values.extend_from_slice(row)?;
         let end = self.values.len();
-        self.heads.push_reserved(Head { instant: at, end });
+        self.heads.push_reserved(AnswerHead { instant: at, end });
         Ok(())
     }
 
@@ -122,12 +123,21 @@ impl AnswerRows {
             (λ a. slice_get self.now number ≡ Some (a.0, a.1.now)) }
         ensures few { IfSome result (λ a. length a.1.now ≤ MAX_COLUMNS) }
     {
-        if number >= self.heads.len() {
+        if number >= self.len() {
             return None;
         }
+        Some(self.answer(number))
+    }
+
+    /// Returns the instant and the values of an answer that is there.
+    fn answer(&self, number: usize) -> (i64, &[Value])
+        requires { number < length self.now }
+        ensures answer { slice_get self.now number ≡ Some (result.0, result.1.now) }
+        ensures few { length result.1.now ≤ MAX_COLUMNS }
+    {
         let head = self.heads[number];
         let start = start_of(&self.heads, number);
-        Some((head.at(), part(&self.values, start, head.end)))
+        (head.at(), part(&self.values, start, head.end))
     }
 
     /// Returns whether the answers are the same, by value and in the same order. Takes no memory.
@@ -149,17 +159,15 @@ impl AnswerRows {
     {
         let mut rows = Vec::with_capacity(alloc, self.len())?;
         for number in 0..self.len() {
-            match self.get(number) {
-                Some((at, values)) => rows.push((at, row_of(values)))?,
-                None => unreachable!(),
-            }
+            let (at, values) = self.answer(number);
+            rows.push((at, row_of(values)))?;
         }
         Ok(rows)
     }
 }
 
 /// Returns where the values of the answer of a number begin.
-fn start_of(heads: &[Head], number: usize) -> usize
+fn start_of(heads: &[AnswerHead], number: usize) -> usize
     requires { number + 1 ≤ length heads.now }
     ensures { result ≡ starts_at 0 heads.now number }
 {
@@ -178,7 +186,7 @@ fn part(values: &[Value], start: usize, end: usize) -> &[Value]
     &values[start..end]
 }
 
-fn same_heads(a: &[Head], b: &[Head]) -> bool
+fn same_heads(a: &[AnswerHead], b: &[AnswerHead]) -> bool
     ensures { IsTrue result ↔ (a.now ≡ b.now) }
 {
     a == b

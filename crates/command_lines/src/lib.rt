@@ -8,6 +8,6 @@ mod serve;
 mod version;
 
 pub use fault::WordsFault;
-pub use run::{RunOptions, run_options};
+pub use run::{RunOptions, TURN_ROWS, run_options};
 pub use serve::{ServeOptions, serve_options};
 pub use version::VERSION;

@@ -13,8 +13,8 @@ use clap::{Arg, ArgAction, Command, value_parser};
 use std::alloc::Global;
 use std::convert::AsStr;
 
-/// Limits the rows of a drain's turns, if the command line does not say.
-const TURN: u32 = 256;
+/// Limits the rows of a turn of `cqld`, and of `cqlrun` if the command line does not say.
+pub const TURN_ROWS: u32 = 256;
 
 /// Holds what the words of `cqlrun` ask for.
 #[derive(Clone, Copy, Debug, PartialEq, Eq)]
@@ -82,7 +82,7 @@ pub fn run_options<'a, S: AsStr>(alloc: Global, words: &'a [S]) -> Result<RunOpt
         Ok(matches) => {
             let options = RunOptions {
                 is_plain: matches.get_one("plain").unwrap_or(false),
-                turn: matches.get_one("turn").unwrap_or(TURN),
+                turn: matches.get_one("turn").unwrap_or(TURN_ROWS),
                 workers: matches.get_one("workers"),
                 forget: matches.get_one("forget"),
             };

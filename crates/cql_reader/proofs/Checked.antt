@@ -1,8 +1,8 @@
 -- What the tables are checked for, by computation.
 use Rattle.std.proofs.Common.{◌≡◌, ◌+◌, Bool, true, false, not, ◌&&◌, ◌||◌, List, [], ◌∷◌, Option, Some, None, refl, ap, sym, ◌∙◌, ◌⊎◌, inl, inr, subst, cond, ltb}
 use Rattle.std.proofs.lemmas.Bool.{and_parts, or_cases, false≢true, cases_Bool, cond-true, cond-false}
-use Rattle.cql_reader.specs.declared.tokens.Kind.{Kind}
-use Rattle.cql_reader.specs.declared.tokens.Kind.TheVariants as k
+use Rattle.cql_reader.specs.declared.tokens.TokenKind.{TokenKind}
+use Rattle.cql_reader.specs.declared.tokens.TokenKind.TheVariants as k
 use Rattle.cql_reader.specs.declared.symbols.Part.{Part}
 use Rattle.cql_reader.specs.declared.symbols.Part.TheVariants as p
 use Rattle.cql_reader.specs.declared.symbols.Symbol.{Symbol}
@@ -38,10 +38,10 @@ pub implied : (a b : Bool) → implies a b ≡ true → a ≡ true → b ≡ tru
 implied true b e h = e
 implied false b e h = absurd (false≢true h)
 
-unfoldable pub kinds : List Kind
+unfoldable pub kinds : List TokenKind
 kinds = k.Select ∷ k.Distinct ∷ k.Istream ∷ k.Dstream ∷ k.Rstream ∷ k.From ∷ k.As ∷ k.Where ∷ k.Group ∷ k.By ∷ k.And ∷ k.Or ∷ k.Not ∷ k.Range ∷ k.Rows ∷ k.Partition ∷ k.Now ∷ k.Unbounded ∷ k.Slide ∷ k.Count ∷ k.Sum ∷ k.Min ∷ k.Max ∷ k.Name ∷ k.Word ∷ k.Number ∷ k.Open ∷ k.Close ∷ k.Left ∷ k.Right ∷ k.Comma ∷ k.Dot ∷ k.Semicolon ∷ k.Star ∷ k.Equal ∷ k.Unequal ∷ k.Less ∷ k.AtMost ∷ k.Greater ∷ k.AtLeast ∷ []
 
-every_kind : (kind : Kind) → Among kind kinds
+every_kind : (kind : TokenKind) → Among kind kinds
 unfolding kinds
 every_kind k.Select = inl refl
 every_kind k.Distinct = inr (inl refl)
@@ -84,7 +84,7 @@ every_kind k.AtMost = inr (inr (inr (inr (inr (inr (inr (inr (inr (inr (inr (inr
 every_kind k.Greater = inr (inr (inr (inr (inr (inr (inr (inr (inr (inr (inr (inr (inr (inr (inr (inr (inr (inr (inr (inr (inr (inr (inr (inr (inr (inr (inr (inr (inr (inr (inr (inr (inr (inr (inr (inr (inr (inr (inl refl))))))))))))))))))))))))))))))))))))))
 every_kind k.AtLeast = inr (inr (inr (inr (inr (inr (inr (inr (inr (inr (inr (inr (inr (inr (inr (inr (inr (inr (inr (inr (inr (inr (inr (inr (inr (inr (inr (inr (inr (inr (inr (inr (inr (inr (inr (inr (inr (inr (inr (inl refl)))))))))))))))))))))))))))))))))))))))
 
-pub at_each_kind : (f : Kind → Bool) → each f kinds ≡ true → (kind : Kind) → f kind ≡ true
+pub at_each_kind : (f : TokenKind → Bool) → each f kinds ≡ true → (kind : TokenKind) → f kind ≡ true
 at_each_kind f e kind = each_at f kinds kind e (every_kind kind)
 
 -- first and nullable cover the alternatives
@@ -134,7 +134,7 @@ first_checked p.OptGroup = refl
 first_checked p.End = refl
 
 -- the kinds that can follow a part
-unfoldable pub follow : Part → List Kind
+unfoldable pub follow : Part → List TokenKind
 follow p.Query = []
 follow p.Form = k.Semicolon ∷ []
 follow p.Op = k.Open ∷ []
@@ -433,7 +433,7 @@ least_checked p.End = refl
 
 -- What the checks say.
 
-pub firsts_covered : (part : Part) (ys : List Symbol) → Among ys (alternatives part) → (kind : Kind) → firsts ys kind ≡ true → has (first part) kind ≡ true
+pub firsts_covered : (part : Part) (ys : List Symbol) → Among ys (alternatives part) → (kind : TokenKind) → firsts ys kind ≡ true → has (first part) kind ≡ true
 unfolding check_first
 firsts_covered part ys a kind h =
     let here = (and_parts _ _ (each_at _ (alternatives part) ys (first_checked part) a)).1 in
@@ -478,12 +478,12 @@ pick_among f (zs ∷ zss) ys e =
     ]
 
 -- At the end, or before this kind of token, a part is written by this alternative and what may follow it.
-unfoldable pub CanStand : Part → List Symbol → Option Kind → Type 0
+unfoldable pub CanStand : Part → List Symbol → Option TokenKind → Type 0
 CanStand part ys None = ends ys ≡ true
 CanStand part ys (Some kind) = (firsts ys kind ≡ true) ⊎ ((ends ys ≡ true) × (has (follow part) kind ≡ true))
 
 -- an alternative that can stand at the next token is the chosen one
-pub choose : (part : Part) (next : Option Kind) (ys : List Symbol) → Among ys (alternatives part) → CanStand part ys next → chosen part next ≡ Some ys
+pub choose : (part : Part) (next : Option TokenKind) (ys : List Symbol) → Among ys (alternatives part) → CanStand part ys next → chosen part next ≡ Some ys
 unfolding chosen CanStand check_apart check_empty
 choose part None ys a h = pick_only ends (alternatives part) ys (and_parts _ _ (apart_checked part)).0 a h
 choose part (Some kind) ys a (inl h) =
@@ -498,7 +498,7 @@ or_else_among : (a b : Option (List Symbol)) (ys : List Symbol) (yss : List (Lis
 or_else_among None b ys yss f g e = g e
 or_else_among (Some x) b ys yss f g e = f e
 
-pub chosen_among : (part : Part) (next : Option Kind) (ys : List Symbol) → chosen part next ≡ Some ys → Among ys (alternatives part)
+pub chosen_among : (part : Part) (next : Option TokenKind) (ys : List Symbol) → chosen part next ≡ Some ys → Among ys (alternatives part)
 unfolding chosen
 chosen_among part None ys e = pick_among ends (alternatives part) ys e
 chosen_among part (Some kind) ys e = or_else_among _ _ ys (alternatives part) (pick_among (λ zs. firsts zs kind) (alternatives part) ys) (pick_among ends (alternatives part) ys) e

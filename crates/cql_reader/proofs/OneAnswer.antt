@@ -2,7 +2,7 @@
 use Rattle.std.proofs.Common.{◌≡◌, ℕ, zero, suc, ◌+◌, ◌<◌, ◌≤◌, true, false, List, [], ◌∷◌, ◌++◌, Some, None, Result, Ok, Err, refl, sym, ap, ◌∙◌, ◌⊎◌, inl, inr, subst, arith, length, drop, take, slice_index, nat_eq, reverse, append_assoc, append-nil, length-append}
 use Rattle.std.proofs.lemmas.List.{reverse-append}
 use Rattle.std.proofs.lemmas.Bool.{or_cases, eqb-true, false≢true, cases_order, cases_Bool, cases_lt}
-use Rattle.cql_reader.specs.declared.tokens.Kind.{Kind}
+use Rattle.cql_reader.specs.declared.tokens.TokenKind.{TokenKind}
 use Rattle.cql_reader.specs.declared.symbols.Symbol.{Symbol}
 use Rattle.cql_reader.specs.Lexis.{is_blank, token_at, all_ascii}
 use Rattle.cql_reader.specs.Tokens.{Token, end_of, Blank, Stands, Tokens, NoToken, scan_from}
@@ -41,10 +41,10 @@ none_at a bs (inr (inl e)) = ap (λ (v : ℕ). token_at (v ∷ bs)) e
 none_at a bs (inr (inr (inl e))) = ap (λ (v : ℕ). token_at (v ∷ bs)) e
 none_at a bs (inr (inr (inr e))) = ap (λ (v : ℕ). token_at (v ∷ bs)) e
 
-not_both : (a : ℕ) (bs : List ℕ) (r : Kind × ℕ) → is_blank a ≡ true → token_at (a ∷ bs) ≡ Some r → ⊥
+not_both : (a : ℕ) (bs : List ℕ) (r : TokenKind × ℕ) → is_blank a ≡ true → token_at (a ∷ bs) ≡ Some r → ⊥
 not_both a bs r h e = let n = none_at a bs (blank_is a h) in cc
 
-ink : (text : List ℕ) (i : ℕ) (r : Kind × ℕ) → token_at (drop i text) ≡ Some r → is_blank (slice_index text i) ≡ true → ⊥
+ink : (text : List ℕ) (i : ℕ) (r : TokenKind × ℕ) → token_at (drop i text) ≡ Some r → is_blank (slice_index text i) ≡ true → ⊥
 ink [] zero r e h = false≢true h
 ink [] (suc i) r e h = false≢true h
 ink (a ∷ bs) zero r e h = not_both a bs r h e
@@ -81,14 +81,14 @@ no_other text at a u p x q st = elim (cases_order a u.place) [
 
 token_from : (t u : Token) → t.kind ≡ u.kind → t.bytes ≡ u.bytes → t.place ≡ u.place → t ≡ u
 token_from t u k s e =
-    ap (λ (v : Kind). record { kind = v; bytes = t.bytes; place = t.place }) k
+    ap (λ (v : TokenKind). record { kind = v; bytes = t.bytes; place = t.place }) k
     ∙ ap (λ (v : List ℕ). record { kind = u.kind; bytes = v; place = t.place }) s
     ∙ ap (λ (v : ℕ). record { kind = u.kind; bytes = u.bytes; place = v }) e
 
 same_token : (text : List ℕ) (t u : Token) → t.place ≡ u.place → Stands text t → Stands text u → t ≡ u
 same_token text t u e a b =
     let p : token_at (drop u.place text) ≡ Some (t.kind, length t.bytes) = subst (λ (v : ℕ). token_at (drop v text) ≡ Some (t.kind, length t.bytes)) e a.longest in
-    let P : Type 0 = Kind × ℕ in
+    let P : Type 0 = TokenKind × ℕ in
     let x : P = (t.kind, length t.bytes) in
     let y : P = (u.kind, length u.bytes) in
     let o : Some x ≡ Some y = sym p ∙ b.longest in

@@ -3,8 +3,8 @@ use Rattle.std.proofs.Common.{◌≡◌, ℕ, zero, suc, ◌+◌, ◌*◌, ◌<�
 use Rattle.std.proofs.lemmas.List.{reverse-append}
 use Rattle.std.proofs.lemmas.Bool.{false_from_ne_true}
 use denote.Enum.Bare.{true_same, same_true}
-use Rattle.cql_reader.specs.contracts.tokens.Kind.{the_type}
-use Rattle.cql_reader.specs.declared.tokens.Kind.{Kind}
+use Rattle.cql_reader.specs.contracts.tokens.TokenKind.{the_type}
+use Rattle.cql_reader.specs.declared.tokens.TokenKind.{TokenKind}
 use Rattle.cql_reader.specs.declared.symbols.Part.{Part}
 use Rattle.cql_reader.specs.declared.symbols.Role.{Role}
 use Rattle.cql_reader.specs.declared.symbols.Mark.{Mark}
@@ -100,7 +100,7 @@ stops_end role xs d place result r =
     let e : run (suc k.0) (Read role ∷ xs) d (End place) ≡ result = subst (λ (n : ℕ). run n (Read role ∷ xs) d (End place) ≡ result) k.1 r.same in
     sym e
 
-not_same : (a b : Kind) → (a ≡ b → ⊥) → same_kind a b ≡ false
+not_same : (a b : TokenKind) → (a ≡ b → ⊥) → same_kind a b ≡ false
 not_same a b f = false_from_ne_true (same_kind a b) (λ h. f (same_true the_type tt a b h))
 
 pub stops_odd : (role : Role) (xs : List Symbol) (d : Draft) (t : Token) (more : Scan) (result : Result Draft Fault) → (t.kind ≡ kind_of role → ⊥) → Runs (Read role ∷ xs) d (Then t more) result → result ≡ Err (Unexpected t.place)

@@ -3,7 +3,7 @@ use Rattle.std.proofs.Common.{◌≡◌, ℕ, zero, suc, ◌+◌, ◌-◌, ◌<�
 use Rattle.std.proofs.lemmas.List.{take_all, drop_all, drop-drop}
 use Rattle.std.specs.List.{prefix_len}
 use Rattle.std.proofs.lemmas.Bool.{cases_Bool, cond-true, cond-false}
-use Rattle.cql_reader.specs.declared.tokens.Kind.{Kind}
+use Rattle.cql_reader.specs.declared.tokens.TokenKind.{TokenKind}
 use Rattle.cql_reader.specs.Lexis.{is_blank, first_byte, token_at}
 use Rattle.cql_reader.specs.Tokens.{Token, Scan, End, Bad, Then, width, scanned, scan, scan_from}
 
@@ -51,19 +51,19 @@ pub scan_bad : (place : ℕ) (bs : List ℕ) → 0 < length bs → is_blank (fir
 unfolding scan
 scan_bad place [] w h e = absurd (omega arith)
 scan_bad place (b ∷ bs) w h e =
-    let f : Bool → Option (Kind × ℕ) → Scan = λ v t. scanned v t place (b ∷ bs) (scan (place + 1) (width v t - 1) bs) in
-    ap (λ (v : Bool). f v (token_at (b ∷ bs))) h ∙ ap (λ (t : Option (Kind × ℕ)). f false t) e
+    let f : Bool → Option (TokenKind × ℕ) → Scan = λ v t. scanned v t place (b ∷ bs) (scan (place + 1) (width v t - 1) bs) in
+    ap (λ (v : Bool). f v (token_at (b ∷ bs))) h ∙ ap (λ (t : Option (TokenKind × ℕ)). f false t) e
 
-pub scan_token : (place : ℕ) (bs : List ℕ) (kind : Kind) (n : ℕ) → is_blank (first_byte bs) ≡ false → token_at bs ≡ Some (kind, n) → 0 < n → n ≤ length bs → scan place 0 bs ≡ Then (record { kind = kind; bytes = take n bs; place = place }) (scan (place + n) 0 (drop n bs))
+pub scan_token : (place : ℕ) (bs : List ℕ) (kind : TokenKind) (n : ℕ) → is_blank (first_byte bs) ≡ false → token_at bs ≡ Some (kind, n) → 0 < n → n ≤ length bs → scan place 0 bs ≡ Then (record { kind = kind; bytes = take n bs; place = place }) (scan (place + n) 0 (drop n bs))
 unfolding scan
 scan_token place [] kind n h e p w = absurd (omega arith)
 scan_token place (b ∷ bs) kind zero h e p w = absurd (omega arith)
 scan_token place (b ∷ bs) kind (suc n) h e p w =
-    let f : Bool → Option (Kind × ℕ) → Scan = λ v t. scanned v t place (b ∷ bs) (scan (place + 1) (width v t - 1) bs) in
+    let f : Bool → Option (TokenKind × ℕ) → Scan = λ v t. scanned v t place (b ∷ bs) (scan (place + 1) (width v t - 1) bs) in
     let t : Token = record { kind = kind; bytes = take (suc n) (b ∷ bs); place = place } in
     let m : suc n - 1 ≡ n = omega arith in
     let q : (place + 1) + n ≡ place + suc n = omega arith in
-    ap (λ (v : Bool). f v (token_at (b ∷ bs))) h ∙ ap (λ (t : Option (Kind × ℕ)). f false t) e
+    ap (λ (v : Bool). f v (token_at (b ∷ bs))) h ∙ ap (λ (t : Option (TokenKind × ℕ)). f false t) e
     ∙ ap (λ (v : ℕ). Then t (scan (place + 1) v bs)) m
     ∙ ap (λ (v : Scan). Then t v) (scan_passed n (place + 1) bs (omega arith))
     ∙ ap (λ (v : ℕ). Then t (scan v 0 (drop n bs))) q
@@ -96,7 +96,7 @@ next_bad text place n e h q =
     after_blanks text place n e
     ∙ scan_bad (place + n) (drop (place + n) text) (omega (arith, length-drop (place + n) text)) (no_blank text place n e h) (ap token_at (sym (rest_is text (place + n))) ∙ q)
 
-pub next_found : (text : List ℕ) (place n : ℕ) (kind : Kind) (len : ℕ) → n ≡ prefix_len is_blank (take (length text - place) (drop place text)) → place + n < length text → token_at (take (length text - (place + n)) (drop (place + n) text)) ≡ Some (kind, len) → 0 < len → len ≤ length (take (length text - (place + n)) (drop (place + n) text)) → scan_from text place ≡ Then (record { kind = kind; bytes = slice_range text (place + n) ((place + n) + len); place = place + n }) (scan_from text ((place + n) + len))
+pub next_found : (text : List ℕ) (place n : ℕ) (kind : TokenKind) (len : ℕ) → n ≡ prefix_len is_blank (take (length text - place) (drop place text)) → place + n < length text → token_at (take (length text - (place + n)) (drop (place + n) text)) ≡ Some (kind, len) → 0 < len → len ≤ length (take (length text - (place + n)) (drop (place + n) text)) → scan_from text place ≡ Then (record { kind = kind; bytes = slice_range text (place + n) ((place + n) + len); place = place + n }) (scan_from text ((place + n) + len))
 next_found text place n kind len e h q p w =
     let i = place + n in
     let l : len ≤ length (drop i text) = subst (λ (v : List ℕ). len ≤ length v) (rest_is text i) w in

@@ -101,10 +101,7 @@ most_brought p.End = 0
 abbrev brings : Mark → ℕ
 brings m.Column = 0
 brings m.CountAll = 0
-brings m.Count = 0
-brings m.Sum = 0
-brings m.Min = 0
-brings m.Max = 0
+brings (m.Of a) = 0
 brings m.Listed = 0
 brings m.Grouped = 0
 brings m.Source = 1
@@ -204,10 +201,7 @@ did-sources : (mark : Mark) (d : Draft) → length (did mark d).sources ≡ leng
 unfolding did
 did-sources m.Column d = omega arith
 did-sources m.CountAll d = omega arith
-did-sources m.Count d = omega arith
-did-sources m.Sum d = omega arith
-did-sources m.Min d = omega arith
-did-sources m.Max d = omega arith
+did-sources (m.Of a) d = omega arith
 did-sources m.Listed d = omega arith
 did-sources m.Grouped d = omega arith
 did-sources m.Source d = length-append d.sources (d.source ∷ [])

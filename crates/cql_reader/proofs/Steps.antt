@@ -1,7 +1,7 @@
 -- One step of each of the tests that go over a list.
 use Rattle.std.proofs.Common.{◌≡◌, true, false, sym, refl, ap, ◌∙◌, ◌||◌, ◌&&◌, Bool, List, ◌∷◌, drop, get_or, length, map, Option, Some, None, cond, ◌<◌, ◌≤◌, ◌+◌, ℕ}
 use Rattle.std.proofs.lemmas.List.{at_drop_more, at_drop_all}
-use Rattle.cql_reader.specs.declared.tokens.Kind.{Kind}
+use Rattle.cql_reader.specs.declared.tokens.TokenKind.{TokenKind}
 use Rattle.cql_reader.specs.declared.symbols.Role.{Role}
 use Rattle.cql_reader.specs.declared.symbols.Part.{Part}
 use Rattle.cql_reader.specs.declared.symbols.Mark.{Mark}
@@ -18,13 +18,13 @@ pub true_and : (x y : Bool) → x ≡ true → (x && y) ≡ y
 true_and true y h = refl
 true_and false y h = cc
 
-pub has_step : (kinds : List Kind) (kind : Kind) (i : ℕ) (d : Kind) → i < length kinds → has (drop i kinds) kind ≡ (same_kind (get_or kinds i d) kind || has (drop (i + 1) kinds) kind)
+pub has_step : (kinds : List TokenKind) (kind : TokenKind) (i : ℕ) (d : TokenKind) → i < length kinds → has (drop i kinds) kind ≡ (same_kind (get_or kinds i d) kind || has (drop (i + 1) kinds) kind)
 unfolding has
-has_step kinds kind i d h = at_drop_more (λ (xs : List Kind). has xs kind) kinds i d h
+has_step kinds kind i d h = at_drop_more (λ (xs : List TokenKind). has xs kind) kinds i d h
 
-pub has_end : (kinds : List Kind) (kind : Kind) (i : ℕ) → length kinds ≤ i → has (drop i kinds) kind ≡ false
+pub has_end : (kinds : List TokenKind) (kind : TokenKind) (i : ℕ) → length kinds ≤ i → has (drop i kinds) kind ≡ false
 unfolding has
-has_end kinds kind i h = at_drop_all (λ (xs : List Kind). has xs kind) kinds i h
+has_end kinds kind i h = at_drop_all (λ (xs : List TokenKind). has xs kind) kinds i h
 
 pub ends_step : (xs : List Symbol) (i : ℕ) (d : Symbol) → i < length xs → ends (drop i xs) ≡ ends (get_or xs i d ∷ drop (i + 1) xs)
 ends_step xs i d h = at_drop_more ends xs i d h
@@ -45,22 +45,22 @@ pub ends_end : (xs : List Symbol) (i : ℕ) → length xs ≤ i → ends (drop i
 unfolding ends
 ends_end xs i h = at_drop_all ends xs i h
 
-pub firsts_step : (xs : List Symbol) (kind : Kind) (i : ℕ) (d : Symbol) → i < length xs → firsts (drop i xs) kind ≡ firsts (get_or xs i d ∷ drop (i + 1) xs) kind
+pub firsts_step : (xs : List Symbol) (kind : TokenKind) (i : ℕ) (d : Symbol) → i < length xs → firsts (drop i xs) kind ≡ firsts (get_or xs i d ∷ drop (i + 1) xs) kind
 firsts_step xs kind i d h = at_drop_more (λ (v : List Symbol). firsts v kind) xs i d h
 
-pub firsts_read : (xs : List Symbol) (kind : Kind) (role : Role) → firsts (Read role ∷ xs) kind ≡ same_kind (kind_of role) kind
+pub firsts_read : (xs : List Symbol) (kind : TokenKind) (role : Role) → firsts (Read role ∷ xs) kind ≡ same_kind (kind_of role) kind
 unfolding firsts
 firsts_read xs kind role = refl
 
-pub firsts_rule : (xs : List Symbol) (kind : Kind) (q : Part) → firsts (Rule q ∷ xs) kind ≡ (has (first q) kind || (nullable q && firsts xs kind))
+pub firsts_rule : (xs : List Symbol) (kind : TokenKind) (q : Part) → firsts (Rule q ∷ xs) kind ≡ (has (first q) kind || (nullable q && firsts xs kind))
 unfolding firsts
 firsts_rule xs kind q = refl
 
-pub firsts_emit : (xs : List Symbol) (kind : Kind) (m : Mark) → firsts (Emit m ∷ xs) kind ≡ firsts xs kind
+pub firsts_emit : (xs : List Symbol) (kind : TokenKind) (m : Mark) → firsts (Emit m ∷ xs) kind ≡ firsts xs kind
 unfolding firsts
 firsts_emit xs kind m = refl
 
-pub firsts_end : (xs : List Symbol) (kind : Kind) (i : ℕ) → length xs ≤ i → firsts (drop i xs) kind ≡ false
+pub firsts_end : (xs : List Symbol) (kind : TokenKind) (i : ℕ) → length xs ≤ i → firsts (drop i xs) kind ≡ false
 unfolding firsts
 firsts_end xs kind i h = at_drop_all (λ (v : List Symbol). firsts v kind) xs i h
 
@@ -77,15 +77,15 @@ pub ends_at_emit : (xs : List Symbol) (i : ℕ) (d : Symbol) (m : Mark) → i < 
 unfolding ends
 ends_at_emit xs i d m h e = ends_step xs i d h ∙ ap (λ (v : Symbol). ends (v ∷ drop (i + 1) xs)) e
 
-pub firsts_at_read : (xs : List Symbol) (kind : Kind) (i : ℕ) (d : Symbol) (role : Role) → i < length xs → get_or xs i d ≡ Read role → firsts (drop i xs) kind ≡ same_kind (kind_of role) kind
+pub firsts_at_read : (xs : List Symbol) (kind : TokenKind) (i : ℕ) (d : Symbol) (role : Role) → i < length xs → get_or xs i d ≡ Read role → firsts (drop i xs) kind ≡ same_kind (kind_of role) kind
 unfolding firsts
 firsts_at_read xs kind i d role h e = firsts_step xs kind i d h ∙ ap (λ (v : Symbol). firsts (v ∷ drop (i + 1) xs) kind) e
 
-pub firsts_at_rule : (xs : List Symbol) (kind : Kind) (i : ℕ) (d : Symbol) (q : Part) → i < length xs → get_or xs i d ≡ Rule q → firsts (drop i xs) kind ≡ (has (first q) kind || (nullable q && firsts (drop (i + 1) xs) kind))
+pub firsts_at_rule : (xs : List Symbol) (kind : TokenKind) (i : ℕ) (d : Symbol) (q : Part) → i < length xs → get_or xs i d ≡ Rule q → firsts (drop i xs) kind ≡ (has (first q) kind || (nullable q && firsts (drop (i + 1) xs) kind))
 unfolding firsts
 firsts_at_rule xs kind i d q h e = firsts_step xs kind i d h ∙ ap (λ (v : Symbol). firsts (v ∷ drop (i + 1) xs) kind) e
 
-pub firsts_at_emit : (xs : List Symbol) (kind : Kind) (i : ℕ) (d : Symbol) (m : Mark) → i < length xs → get_or xs i d ≡ Emit m → firsts (drop i xs) kind ≡ firsts (drop (i + 1) xs) kind
+pub firsts_at_emit : (xs : List Symbol) (kind : TokenKind) (i : ℕ) (d : Symbol) (m : Mark) → i < length xs → get_or xs i d ≡ Emit m → firsts (drop i xs) kind ≡ firsts (drop (i + 1) xs) kind
 unfolding firsts
 firsts_at_emit xs kind i d m h e = firsts_step xs kind i d h ∙ ap (λ (v : Symbol). firsts (v ∷ drop (i + 1) xs) kind) e
 
@@ -97,11 +97,11 @@ pub pick_end : {A : Type 0} (view : A → List Symbol) (f : List Symbol → Bool
 unfolding pick
 pick_end view f xs i h = at_drop_all (λ v. pick f (map view v)) xs i h
 
-pub chosen_some : (part : Part) (kind : Kind) (yss : List (List Symbol)) (ys : List Symbol) → yss ≡ alternatives part → pick (λ zs. firsts zs kind) yss ≡ Some ys → chosen part (Some kind) ≡ Some ys
+pub chosen_some : (part : Part) (kind : TokenKind) (yss : List (List Symbol)) (ys : List Symbol) → yss ≡ alternatives part → pick (λ zs. firsts zs kind) yss ≡ Some ys → chosen part (Some kind) ≡ Some ys
 unfolding chosen
 chosen_some part kind yss ys e h = ap (λ (o : Option (List Symbol)). or_else o (pick ends (alternatives part))) (ap (λ (v : List (List Symbol)). pick (λ zs. firsts zs kind) v) (sym e) ∙ h)
 
-pub chosen_else : (part : Part) (kind : Kind) (yss : List (List Symbol)) (o : Option (List Symbol)) → yss ≡ alternatives part → pick (λ zs. firsts zs kind) yss ≡ None → pick ends yss ≡ o → chosen part (Some kind) ≡ o
+pub chosen_else : (part : Part) (kind : TokenKind) (yss : List (List Symbol)) (o : Option (List Symbol)) → yss ≡ alternatives part → pick (λ zs. firsts zs kind) yss ≡ None → pick ends yss ≡ o → chosen part (Some kind) ≡ o
 unfolding chosen
 chosen_else part kind yss o e h r = ap (λ (o : Option (List Symbol)). or_else o (pick ends (alternatives part))) (ap (λ (v : List (List Symbol)). pick (λ zs. firsts zs kind) v) (sym e) ∙ h) ∙ ap (pick ends) (sym e) ∙ r
 

@@ -4,8 +4,8 @@ use Rattle.std.proofs.lemmas.List.{drop-drop, drop_all}
 use Rattle.std.proofs.lemmas.List.Sums.{prefix_len-le-length}
 use Rattle.std.specs.List.{prefix_len}
 use Rattle.std.proofs.lemmas.Bool.{cases_Bool, cases_lt, cond-true, cond-false, or_left, eqb-true, false≢true}
-use Rattle.cql_reader.specs.declared.tokens.Kind.{Kind}
-use Rattle.cql_reader.specs.declared.tokens.Kind.TheVariants as k
+use Rattle.cql_reader.specs.declared.tokens.TokenKind.{TokenKind}
+use Rattle.cql_reader.specs.declared.tokens.TokenKind.TheVariants as k
 use Rattle.cql_reader.specs.Lexis.{is_blank, is_letter, is_digit, is_word, first_byte, second_byte, symbol, token_at}
 use Rattle.cql_reader.specs.Tokens.{Token, end_of, Blank, Stands, NoToken, Scan, End, Bad, Then, scan, scan_from}
 use Rattle.cql_reader.proofs.Scans.{scan_blanks, ink_behind, scan_bad, scan_token}
@@ -13,11 +13,11 @@ use Rattle.cql_reader.proofs.Scans.{scan_blanks, ink_behind, scan_bad, scan_toke
 -- How many bytes a token takes.
 
 -- a token of this width stands in the bytes
-record Fits (bytes : List ℕ) (r : Kind × ℕ) : Type 0 where
+record Fits (bytes : List ℕ) (r : TokenKind × ℕ) : Type 0 where
   pub forward : 0 < r.1
   pub within : r.1 ≤ length bytes
 
-none_some : (r : Kind × ℕ) → None ≡ Some r → ⊥
+none_some : (r : TokenKind × ℕ) → None ≡ Some r → ⊥
 none_some r e = cc
 
 by_cond : {A : Type 0} (P : A → Type 0) (b : Bool) (x y : Option A) (r : A) → cond b x y ≡ Some r → (b ≡ true → x ≡ Some r → P r) → (b ≡ false → y ≡ Some r → P r) → P r
@@ -26,9 +26,9 @@ by_cond P b x y r e f g = elim (cases_Bool b) [
   | inr h ↦ g h (sym (cond-false b x y h) ∙ e)
 ]
 
-one_byte : (bytes : List ℕ) (kind : Kind) (r : Kind × ℕ) → 0 < length bytes → Some (kind, 1) ≡ Some r → Fits bytes r
+one_byte : (bytes : List ℕ) (kind : TokenKind) (r : TokenKind × ℕ) → 0 < length bytes → Some (kind, 1) ≡ Some r → Fits bytes r
 one_byte bytes kind r h e =
-    let P : Type 0 = Kind × ℕ in
+    let P : Type 0 = TokenKind × ℕ in
     let x : P = (kind, 1) in
     let o : Some x ≡ Some r = e in
     let w : x ≡ r = cc in
@@ -39,18 +39,18 @@ two_long [] b h e = absurd (omega arith)
 two_long (x ∷ []) b h e = absurd (omega arith)
 two_long (x ∷ y ∷ bs) b h e = omega arith
 
-two_bytes : (bytes : List ℕ) (b : ℕ) (kind : Kind) (r : Kind × ℕ) → 0 < b → nat_eq (second_byte bytes) b ≡ true → Some (kind, 2) ≡ Some r → Fits bytes r
+two_bytes : (bytes : List ℕ) (b : ℕ) (kind : TokenKind) (r : TokenKind × ℕ) → 0 < b → nat_eq (second_byte bytes) b ≡ true → Some (kind, 2) ≡ Some r → Fits bytes r
 two_bytes bytes b kind r h t e =
-    let P : Type 0 = Kind × ℕ in
+    let P : Type 0 = TokenKind × ℕ in
     let x : P = (kind, 2) in
     let o : Some x ≡ Some r = e in
     let w : x ≡ r = cc in
     let l = two_long bytes b h (eqb-true (second_byte bytes) b t) in
     subst (Fits bytes) w (record { forward = omega arith; within = omega arith })
 
-symbol_fits : (bytes : List ℕ) (r : Kind × ℕ) → 0 < length bytes → symbol (first_byte bytes) (second_byte bytes) ≡ Some r → Fits bytes r
+symbol_fits : (bytes : List ℕ) (r : TokenKind × ℕ) → 0 < length bytes → symbol (first_byte bytes) (second_byte bytes) ≡ Some r → Fits bytes r
 symbol_fits bytes r h e =
-    let P : Kind × ℕ → Type 0 = λ v. Fits bytes v in
+    let P : TokenKind × ℕ → Type 0 = λ v. Fits bytes v in
     let a = first_byte bytes in
     let b = second_byte bytes in
     by_cond P (nat_eq a 40) _ _ r e (λ _ q. one_byte bytes k.Open r h q) (λ _ e1.
@@ -71,9 +71,9 @@ symbol_fits bytes r h e =
     by_cond P (nat_eq b 61) _ _ r other (λ t q. two_bytes bytes 61 k.Unequal r (omega arith) t q) (λ _ q. absurd (none_some r q)))
     (λ _ q. absurd (none_some r q)))))))))))))
 
-fits_by : (bytes : List ℕ) (kind : Kind) (n : ℕ) (r : Kind × ℕ) → 0 < n → n ≤ length bytes → Some (kind, n) ≡ Some r → Fits bytes r
+fits_by : (bytes : List ℕ) (kind : TokenKind) (n : ℕ) (r : TokenKind × ℕ) → 0 < n → n ≤ length bytes → Some (kind, n) ≡ Some r → Fits bytes r
 fits_by bytes kind n r h w e =
-    let P : Type 0 = Kind × ℕ in
+    let P : Type 0 = TokenKind × ℕ in
     let x : P = (kind, n) in
     let o : Some x ≡ Some r = e in
     let q : x ≡ r = cc in
@@ -87,10 +87,10 @@ number_forward : (bytes : List ℕ) → is_digit (first_byte bytes) ≡ true →
 number_forward [] h = absurd (false≢true h)
 number_forward (a ∷ bs) h = let e = cond-true (is_digit a) (1 + prefix_len is_digit bs) 0 h in omega (arith, e)
 
-token_fits : (bytes : List ℕ) (r : Kind × ℕ) → 0 < length bytes → token_at bytes ≡ Some r → Fits bytes r
+token_fits : (bytes : List ℕ) (r : TokenKind × ℕ) → 0 < length bytes → token_at bytes ≡ Some r → Fits bytes r
 unfolding token_at
 token_fits bytes r h e =
-    let P : Kind × ℕ → Type 0 = λ v. Fits bytes v in
+    let P : TokenKind × ℕ → Type 0 = λ v. Fits bytes v in
     by_cond P (is_letter (first_byte bytes)) _ _ r e (λ t q. fits_by bytes _ (prefix_len is_word bytes) r (word_forward bytes t) (prefix_len-le-length is_word bytes) q) (λ _ e1.
     by_cond P (is_digit (first_byte bytes)) _ _ r e1 (λ t q. fits_by bytes _ (prefix_len is_digit bytes) r (number_forward bytes t) (prefix_len-le-length is_digit bytes) q) (λ _ e2.
     by_cond P (nat_eq (first_byte bytes) 45) _ _ r e2 (λ _ minus. by_cond P (nat_eq (prefix_len is_digit (drop 1 bytes)) 0) _ _ r minus (λ _ q. absurd (none_some r q)) (λ _ q.
@@ -136,7 +136,7 @@ blank_stands text at = record {
 }
 
 -- a token that is found stands in the text
-found_stands : (text : List ℕ) (i : ℕ) (kind : Kind) (n : ℕ) → i < length text → token_at (drop i text) ≡ Some (kind, n) → 0 < n → n ≤ length (drop i text) → length (take n (drop i text)) ≡ n → Stands text (record { kind = kind; bytes = take n (drop i text); place = i })
+found_stands : (text : List ℕ) (i : ℕ) (kind : TokenKind) (n : ℕ) → i < length text → token_at (drop i text) ≡ Some (kind, n) → 0 < n → n ≤ length (drop i text) → length (take n (drop i text)) ≡ n → Stands text (record { kind = kind; bytes = take n (drop i text); place = i })
 found_stands text i kind n h e p w l = record {
   longest = e ∙ ap (λ (v : ℕ). Some (kind, v)) (sym l);
   spelled = ap (λ (v : ℕ). take v (drop i text)) (sym l);
@@ -144,7 +144,7 @@ found_stands text i kind n h e p w l = record {
   within = omega (arith, l, length-drop i text);
 }
 
-scanned_token : (text : List ℕ) (at i : ℕ) → Blank text at i → i < length text → is_blank (first_byte (drop i text)) ≡ false → ((j : ℕ) → i < j → j ≤ length text → Scanned text j (scan_from text j)) → (o : Option (Kind × ℕ)) → token_at (drop i text) ≡ o → Scanned text at (scan_from text i)
+scanned_token : (text : List ℕ) (at i : ℕ) → Blank text at i → i < length text → is_blank (first_byte (drop i text)) ≡ false → ((j : ℕ) → i < j → j ≤ length text → Scanned text j (scan_from text j)) → (o : Option (TokenKind × ℕ)) → token_at (drop i text) ≡ o → Scanned text at (scan_from text i)
 scanned_token text at i b h ink more None e =
     subst (Scanned text at) (sym (scan_bad i (drop i text) (omega (arith, length-drop i text)) ink e))
     (b, record { within = h; ink = ap is_blank (index_first text i) ∙ ink; none = e })

@@ -2,8 +2,8 @@
 use Rattle.std.proofs.Common.{◌≡◌, ℕ, zero, suc, ◌+◌, ◌<◌, ◌≤◌, Bool, true, false, not, nat_lt, ◌&&◌, ◌||◌, List, [], ◌∷◌, ◌++◌, Option, Some, None, refl, ap, sym, ◌∙◌, ◌⊎◌, inl, inr, subst, ltb, arith, ◌↔◌, append_assoc, append-nil}
 use Rattle.std.proofs.lemmas.Bool.{and_parts, or_cases, or_left, or_right, and_from, false≢true, cond-false, ltb-true}
 use denote.Enum.Bare.{true_same}
-use Rattle.cql_reader.specs.contracts.tokens.Kind.{the_type}
-use Rattle.cql_reader.specs.declared.tokens.Kind.{Kind}
+use Rattle.cql_reader.specs.contracts.tokens.TokenKind.{the_type}
+use Rattle.cql_reader.specs.declared.tokens.TokenKind.{TokenKind}
 use Rattle.cql_reader.specs.declared.symbols.Role.{Role}
 use Rattle.cql_reader.specs.declared.symbols.Role.TheVariants as r
 use Rattle.cql_reader.specs.declared.symbols.Part.{Part}
@@ -18,7 +18,7 @@ use Rattle.cql_reader.proofs.Checked.{follow, CanStand, firsts_covered, ends_cov
 
 -- What a derivation begins with.
 
-firsts-append : (ys xs : List Symbol) (kind : Kind) → firsts (ys ++ xs) kind ≡ true → (firsts ys kind ≡ true) ⊎ ((ends ys ≡ true) × (firsts xs kind ≡ true))
+firsts-append : (ys xs : List Symbol) (kind : TokenKind) → firsts (ys ++ xs) kind ≡ true → (firsts ys kind ≡ true) ⊎ ((ends ys ≡ true) × (firsts xs kind ≡ true))
 unfolding firsts ends
 firsts-append [] xs kind h = inr (refl, h)
 firsts-append (Read role ∷ ys) xs kind h = inl h
@@ -63,16 +63,16 @@ abbrev Fit : List Symbol → Type 0
 Fit [] = Unit {0}
 Fit (Read role ∷ xs) = Fit xs
 Fit (Emit mark ∷ xs) = Fit xs
-Fit (Rule q ∷ xs) = ((kind : Kind) → firsts xs kind ≡ true → has (follow q) kind ≡ true) × Fit xs
+Fit (Rule q ∷ xs) = ((kind : TokenKind) → firsts xs kind ≡ true → has (follow q) kind ≡ true) × Fit xs
 
-Fit-append : (part : Part) (ys xs : List Symbol) → fits part ys ≡ true → ((kind : Kind) → firsts xs kind ≡ true → has (follow part) kind ≡ true) → Fit xs → Fit (ys ++ xs)
+Fit-append : (part : Part) (ys xs : List Symbol) → fits part ys ≡ true → ((kind : TokenKind) → firsts xs kind ≡ true → has (follow part) kind ≡ true) → Fit xs → Fit (ys ++ xs)
 unfolding fits
 Fit-append part [] xs e below fit = fit
 Fit-append part (Read role ∷ ys) xs e below fit = Fit-append part ys xs e below fit
 Fit-append part (Emit mark ∷ ys) xs e below fit = Fit-append part ys xs e below fit
 Fit-append part (Rule q ∷ ys) xs e below fit =
-    let can : Kind → Bool = λ kind. firsts ys kind || (ends ys && has (follow part) kind) in
-    let test : Kind → Bool = λ kind. implies (can kind) (has (follow q) kind) in
+    let can : TokenKind → Bool = λ kind. firsts ys kind || (ends ys && has (follow part) kind) in
+    let test : TokenKind → Bool = λ kind. implies (can kind) (has (follow q) kind) in
     let both = and_parts (each test kinds) (fits part ys) e in (
       λ kind h. elim (firsts-append ys xs kind h) [
         | inl f ↦ implied (can kind) (has (follow q) kind) (at_each_kind test both.0 kind) (or_left (firsts ys kind) (ends ys && has (follow part) kind) f)
@@ -112,7 +112,7 @@ weights-append (Emit mark ∷ ys) xs = omega (arith, weights-append ys xs)
 weights-append (Rule r ∷ ys) xs = omega (arith, weights-append ys xs)
 
 -- a token of a kind, which may stand anywhere
-sample : Kind → Token
+sample : TokenKind → Token
 sample kind = record { kind = kind; bytes = 49 ∷ []; place = 0 }
 
 one_in_range : (role : Role) → in_range role (number_of (49 ∷ [])) ≡ true
@@ -237,7 +237,7 @@ going_emit front rest mark xs s g = record {
 }
 
 -- the kind of the next token
-abbrev pub next_of : List Token → Option Kind
+abbrev pub next_of : List Token → Option TokenKind
 next_of [] = None
 next_of (t ∷ ts) = Some t.kind
 
@@ -248,7 +248,7 @@ same_ahead [] (v ∷ vs) h = absurd h
 same_ahead (t ∷ ts) [] h = absurd h
 
 -- the alternative that a derivation takes is the one that the next token chooses
-chosen_by : (level : Level) (part : Part) (ys xs : List Symbol) (s : Draft) (u : List Token) (s' : Draft) → Among ys (alternatives part) → ((kind : Kind) → firsts xs kind ≡ true → has (follow part) kind ≡ true) → Derives level (ys ++ xs) s u s' → chosen part (next_of u) ≡ Some ys
+chosen_by : (level : Level) (part : Part) (ys xs : List Symbol) (s : Draft) (u : List Token) (s' : Draft) → Among ys (alternatives part) → ((kind : TokenKind) → firsts xs kind ≡ true → has (follow part) kind ≡ true) → Derives level (ys ++ xs) s u s' → chosen part (next_of u) ≡ Some ys
 unfolding CanStand
 chosen_by level part ys xs s [] s' a below d = choose part None ys a (ends-append ys xs (ends_of d)).0
 chosen_by level part ys xs s (t ∷ ts) s' a below d = choose part (Some t.kind) ys a (elim (firsts-append ys xs t.kind (firsts_of d)) [
@@ -367,5 +367,5 @@ effort_rule_in part (Read role ∷ ys) xs h = omega (arith, weights-append ys xs
 effort_rule_in part (Emit mark ∷ ys) xs h = omega (arith, weights-append ys xs, ltb-true (weights (Emit mark ∷ ys)) (weight part) h)
 effort_rule_in part (Rule q ∷ ys) xs h = omega (arith, weights-append ys xs, ltb-true (weights (Rule q ∷ ys)) (weight part) h)
 
-pub effort_rule : (part : Part) (next : Option Kind) (ys xs : List Symbol) → chosen part next ≡ Some ys → effort (ys ++ xs) < effort (Rule part ∷ xs)
+pub effort_rule : (part : Part) (next : Option TokenKind) (ys xs : List Symbol) → chosen part next ≡ Some ys → effort (ys ++ xs) < effort (Rule part ∷ xs)
 effort_rule part next ys xs e = effort_rule_in part ys xs (light_at part ys (chosen_among part next ys e))

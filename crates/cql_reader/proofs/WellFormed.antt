@@ -11,7 +11,7 @@ use Rattle.cql_reader.specs.declared.symbols.Symbol.{Symbol}
 use Rattle.cql_reader.specs.Lexis.{number_of}
 use Rattle.cql_reader.specs.Tokens.{Token}
 use Rattle.cql_reader.specs.Fault.{Fault}
-use Rattle.cql_reader.specs.Query.{Query, Source, Entry, Reference, Window, Now, Range, RangeSlide, Unbounded, Rows, Partition, Condition}
+use Rattle.cql_reader.specs.Query.{Query, WrittenSource, WrittenEntry, Reference, WrittenWindow, Now, Range, RangeSlide, Unbounded, Rows, Partition, WrittenCondition}
 use Rattle.cql_reader.specs.Grammar.{Draft, Strict, in_span, in_step, in_rows, in_stream, in_range, may_open, allowed, took, did, listed, last_standing, partitioned, sliding, negated, conjoined, disjoined, Derives, nothing, read, emit, rule}
 use Rattle.cql_reader.specs.Reading.{IsAnswer, reading}
 use Rattle.cql_reader.specs.WellFormed.{HasItems, IsRowCount, IsGoodWindow, IsGoodOperand, IsGoodCondition, IsGoodWhere, IsWellFormed}
@@ -56,42 +56,42 @@ stream_bound (negsuc n) h = let l = not_above n h in (omega (arith, ints), omega
 
 -- What is read is good.
 
-abbrev EachGood : List Source → Type 0
+abbrev EachGood : List WrittenSource → Type 0
 EachGood [] = Unit {0}
 EachGood (s ∷ ss) = IsGoodWindow s.window × EachGood ss
 
-good_append : (ss : List Source) (s : Source) → EachGood ss → IsGoodWindow s.window → EachGood (ss ++ s ∷ [])
+good_append : (ss : List WrittenSource) (s : WrittenSource) → EachGood ss → IsGoodWindow s.window → EachGood (ss ++ s ∷ [])
 good_append [] s h g = (g, tt)
 good_append (s' ∷ ss) s h g = (h.0, good_append ss s h.1 g)
 
-each_good : (ss : List Source) → EachGood ss → Each' (λ s. IsGoodWindow s.window) ss
+each_good : (ss : List WrittenSource) → EachGood ss → Each' (λ s. IsGoodWindow s.window) ss
 each_good [] h k d l = absurd (omega arith)
 each_good (s ∷ ss) h zero d l = h.0
 each_good (s ∷ ss) h (suc k) d l = each_good ss h.1 k d (omega arith)
 
-abbrev EachStands : List Condition → Type 0
+abbrev EachStands : List WrittenCondition → Type 0
 EachStands [] = Unit {0}
 EachStands (a ∷ as') = IsGoodCondition a × EachStands as'
 
-good_negated : (as' : List Condition) → EachStands as' → EachStands (negated as')
+good_negated : (as' : List WrittenCondition) → EachStands as' → EachStands (negated as')
 good_negated [] h = h
 good_negated (a ∷ as') h = h
 
-good_conjoined : (as' : List Condition) → EachStands as' → EachStands (conjoined as')
+good_conjoined : (as' : List WrittenCondition) → EachStands as' → EachStands (conjoined as')
 good_conjoined [] h = h
 good_conjoined (b ∷ []) h = h
 good_conjoined (b ∷ a ∷ as') h = ((h.1.0, h.0), h.1.1)
 
-good_disjoined : (as' : List Condition) → EachStands as' → EachStands (disjoined as')
+good_disjoined : (as' : List WrittenCondition) → EachStands as' → EachStands (disjoined as')
 good_disjoined [] h = h
 good_disjoined (b ∷ []) h = h
 good_disjoined (b ∷ a ∷ as') h = ((h.1.0, h.0), h.1.1)
 
-good_parted : (columns : List Reference) (rows : ℕ) (window : Window) → IsRowCount rows → IsGoodWindow window → IsGoodWindow (partitioned columns rows window)
+good_parted : (columns : List Reference) (rows : ℕ) (window : WrittenWindow) → IsRowCount rows → IsGoodWindow window → IsGoodWindow (partitioned columns rows window)
 good_parted [] rows window h g = g
 good_parted (column ∷ columns) rows window h g = (omega arith, h)
 
-good_slid : (step : ℕ) (window : Window) → (1 ≤ step) × (step ≤ 1099511627776) → IsGoodWindow window → IsGoodWindow (sliding step window)
+good_slid : (step : ℕ) (window : WrittenWindow) → (1 ≤ step) × (step ≤ 1099511627776) → IsGoodWindow window → IsGoodWindow (sliding step window)
 good_slid step Now h g = tt
 good_slid step (Range instants) h g = (g, h)
 good_slid step (RangeSlide instants other) h g = g
@@ -126,10 +126,7 @@ good_did : (mark : Mark) (d : Draft) → Good d → Good (did mark d)
 unfolding did
 good_did m.Column d s = s
 good_did m.CountAll d s = s
-good_did m.Count d s = s
-good_did m.Sum d s = s
-good_did m.Min d s = s
-good_did m.Max d s = s
+good_did (m.Of a) d s = s
 good_did m.Listed d s = s
 good_did m.Grouped d s = s
 good_did m.Source d s = (tt, good_append d.sources d.source s.1 s.0, s.2, s.3, s.4)
@@ -148,11 +145,11 @@ good_derived (read {role = role} {d = d} {t = t} e a rest) g =
 good_derived (emit {mark = mark} {d = d} rest) g = good_derived rest (good_did mark d g)
 good_derived (rule ys among rest) g = good_derived rest g
 
-has_items : (entries : List Entry) → HasItems (listed entries)
+has_items : (entries : List WrittenEntry) → HasItems (listed entries)
 has_items [] = tt
 has_items (entry ∷ entries) = omega arith
 
-good_where : (as' : List Condition) → EachStands as' → IsGoodWhere (last_standing as')
+good_where : (as' : List WrittenCondition) → EachStands as' → IsGoodWhere (last_standing as')
 good_where [] h = tt
 good_where (a ∷ as') h = h.0
 

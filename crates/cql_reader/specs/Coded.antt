@@ -1,7 +1,7 @@
 -- What the values of the program say.
 use Rattle.std.specs.Prelude.{◌≡◌, ℕ, ◌+◌, ◌<◌, ◌≤◌, true, false, map, reverse, length, slice_range}
 use Rattle.std.specs.Prelude.{List, Option, Some, None, Result, Ok, Err}
-use Rattle.cql_reader.specs.declared.tokens.Kind.TheVariants as k
+use Rattle.cql_reader.specs.declared.tokens.TokenKind.TheVariants as k
 use Rattle.cql_reader.specs.declared.tokens.Token.{Token as CodedToken}
 use Rattle.cql_reader.specs.declared.symbols.Role.{Role}
 use Rattle.cql_reader.specs.declared.stack.Terms.{Terms as CodedTerms}
@@ -11,10 +11,10 @@ use Rattle.cql_reader.specs.declared.ReadFault.TheVariants as faults
 use Rattle.cql_reader.specs.Lexis.{number_of}
 use Rattle.cql_reader.specs.Tokens.{Token, Scan, End, Bad, Then, scan_from}
 use Rattle.values.specs.Resolved.{operator_of}
-use Rattle.cql_reader.specs.Query.{Condition}
+use Rattle.cql_reader.specs.Query.{WrittenCondition}
 use Rattle.cql_reader.specs.Views.{reference_of, references_of, entry_of, source_of, sources_of}
 use Rattle.cql_reader.specs.Views.{operand_of, condition_of}
-use Rattle.cql_reader.specs.declared.query.Condition.{Condition as CodedCondition}
+use Rattle.cql_reader.specs.declared.query.WrittenCondition.{WrittenCondition as CodedCondition}
 use Rattle.cql_reader.specs.Grammar.{Draft, Terms, kind_of, in_range, may_open}
 use Rattle.cql_reader.specs.Fault.{Fault, TextTooLong, NotAscii, BadToken, Unexpected, NumberRange}
 use Rattle.cql_reader.specs.Fault.{TooDeep}
@@ -23,7 +23,7 @@ abbrev pub token_of : List ℕ → CodedToken → Token
 token_of text t = record { kind = t.kind; bytes = slice_range text t.«from» t.to; place = t.«from» }
 
 -- the conditions of a stack, the last first
-abbrev pub standing_of : List CodedCondition → List Condition
+abbrev pub standing_of : List CodedCondition → List WrittenCondition
 standing_of conditions = reverse (map condition_of conditions)
 
 abbrev pub terms_of : CodedTerms → Terms

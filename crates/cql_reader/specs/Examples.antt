@@ -1,16 +1,19 @@
 -- The definitions at worked texts.
-use Rattle.std.specs.Prelude.{◌≡◌, ℕ, List, [], ◌∷◌, Option, Some, None, Result, Ok, Err, codes}
-use Rattle.std.specs.Prelude.{refl, true, false, pos, negsuc}
+use Rattle.std.specs.Prelude.{◌≡◌, ℕ, zero, suc, List, [], ◌∷◌, ◌++◌, Option, Some, None, Result}
+use Rattle.std.specs.Prelude.{Ok, Err, codes, refl, true, false, pos, negsuc}
 use Rattle.values.specs.Answers.{StreamOperator, Istream, Dstream, Rstream}
+use Rattle.values.specs.declared.resolved.Aggregate.TheVariants.{Sum}
 use Rattle.values.specs.declared.resolved.Compare.{Compare}
 use Rattle.values.specs.declared.resolved.Compare.TheVariants.{Equals, Differs, Below, AtMost}
 use Rattle.values.specs.declared.resolved.Compare.TheVariants.{Above, AtLeast}
 use Rattle.cql_reader.specs.Lexis.{is_name, reserved, same_bytes, same_letters, kind_in, word_kind}
 use Rattle.cql_reader.specs.Lexis.{all_word, all_ascii, token_at, decimal, number_of}
 use Rattle.cql_reader.specs.Tokens.{scan}
-use Rattle.cql_reader.specs.Query.{Query, Reference, Column, CountAll, Sum, All, Each, Window, Now}
-use Rattle.cql_reader.specs.Query.{Range, RangeSlide, Unbounded, Rows, Partition, Source, Operand}
-use Rattle.cql_reader.specs.Query.{Named, Number, Condition, Compared, Not, And, Or}
+use Rattle.cql_reader.specs.Query.{Query, Reference, Column, CountAll, Of, All, Each, WrittenWindow}
+use Rattle.cql_reader.specs.Query.{Now}
+use Rattle.cql_reader.specs.Query.{Range, RangeSlide, Unbounded, Rows, Partition, WrittenSource}
+use Rattle.cql_reader.specs.Query.{WrittenOperand}
+use Rattle.cql_reader.specs.Query.{Named, Number, WrittenCondition, Compared, Not, And, Or}
 use Rattle.cql_reader.specs.Grammar.{alternatives, kind_of, in_range, deepens, took, did}
 use Rattle.cql_reader.specs.Fault.{Fault, BadToken, Unexpected, NumberRange, TooDeep}
 use Rattle.cql_reader.specs.Prediction.{first, nullable, has, firsts, ends, pick, chosen, run}
@@ -18,7 +21,7 @@ use Rattle.cql_reader.specs.Prediction.{count, parsed}
 use Rattle.cql_reader.specs.Reading.{reading}
 
 -- a query of `*`
-abbrev all : StreamOperator → List Source → Option Condition → Query
+abbrev all : StreamOperator → List WrittenSource → Option WrittenCondition → Query
 all operator sources condition =
     record {
       operator = operator;
@@ -30,7 +33,7 @@ all operator sources condition =
     }
 
 -- a source of the stream S
-abbrev from_S : Window → Option (List ℕ) → Source
+abbrev from_S : WrittenWindow → Option (List ℕ) → WrittenSource
 from_S window alias = record { stream = codes "S"; window = window; alias = alias }
 
 abbrev named : List ℕ → Reference
@@ -40,7 +43,7 @@ abbrev of : List ℕ → List ℕ → Reference
 of source name = record { qualifier = Some source; name = name }
 
 -- a column compared
-abbrev test : List ℕ → Compare → Operand → Condition
+abbrev test : List ℕ → Compare → WrittenOperand → WrittenCondition
 test name how operand = Compared (Named (named name)) how operand
 
 abbrev at : (ℕ → Fault) → ℕ → Result Query Fault
@@ -103,7 +106,7 @@ a_list : reading (codes "Select Istream(Distinct k As j, Count(*), Sum(S.v)) Fro
       operator = Istream;
       is_distinct = true;
       entries = Each (Column (named (codes "k")) ∷ CountAll
-          ∷ Sum (of (codes "S") (codes "v")) ∷ []);
+          ∷ Of Sum (of (codes "S") (codes "v")) ∷ []);
       sources = from_S Unbounded None ∷ [];
       condition = None;
       group = named (codes "k") ∷ named (codes "v") ∷ [];
@@ -177,14 +180,20 @@ unfolding reading all_ascii parsed scan token_at word_kind kind_in reserved same
     did decimal number_of
 rows_do_not_slide = refl
 
-room_for_more : reading (codes "Select Istream(a) From S Where ((((((((((((((((((((((((((((((((a > 0))))))))))))))))))))))))))))))))") ≡ Ok (record {
-  operator = Istream;
-  is_distinct = false;
-  entries = Each (Column (named (codes "a")) ∷ []);
-  sources = from_S Unbounded None ∷ [];
-  condition = Some (test (codes "a") Above (Number (pos 0)));
-  group = [];
-})
+-- a condition in so many brackets
+abbrev in_brackets : ℕ → List ℕ → List ℕ
+in_brackets zero text = text
+in_brackets (suc n) text = codes "(" ++ in_brackets n text ++ codes ")"
+
+room_for_more : reading (codes "Select Istream(a) From S Where " ++ in_brackets 32 (codes "a > 0"))
+    ≡ Ok (record {
+      operator = Istream;
+      is_distinct = false;
+      entries = Each (Column (named (codes "a")) ∷ []);
+      sources = from_S Unbounded None ∷ [];
+      condition = Some (test (codes "a") Above (Number (pos 0)));
+      group = [];
+    })
 unfolding reading all_ascii parsed scan token_at word_kind kind_in reserved same_letters same_bytes
     run count chosen pick firsts ends has first nullable alternatives kind_of in_range deepens took
     did decimal number_of

@@ -6,9 +6,10 @@ use Rattle.values.specs.Answers.{StreamOperator, Istream}
 use Rattle.values.specs.declared.resolved.Compare.{Compare}
 use Rattle.values.specs.Resolved.{operator_of}
 use Rattle.values.specs.declared.resolved.StreamOperator.TheVariants as o
+use Rattle.values.specs.declared.resolved.Aggregate.TheVariants as g
 use Rattle.values.specs.declared.resolved.Compare.TheVariants as c
-use Rattle.cql_reader.specs.declared.tokens.Kind.{Kind}
-use Rattle.cql_reader.specs.declared.tokens.Kind.TheVariants as k
+use Rattle.cql_reader.specs.declared.tokens.TokenKind.{TokenKind}
+use Rattle.cql_reader.specs.declared.tokens.TokenKind.TheVariants as k
 use Rattle.cql_reader.specs.declared.symbols.Part.{Part}
 use Rattle.cql_reader.specs.declared.symbols.Part.TheVariants as p
 use Rattle.cql_reader.specs.declared.symbols.Role.{Role}
@@ -19,13 +20,15 @@ use Rattle.cql_reader.specs.declared.symbols.Symbol.{Symbol}
 use Rattle.cql_reader.specs.declared.symbols.Symbol.TheVariants.{Read, Rule, Emit}
 use Rattle.cql_reader.specs.Lexis.{number_of}
 use Rattle.cql_reader.specs.Tokens.{Token}
-use Rattle.cql_reader.specs.Query.{Query, Source, Entry, Column, CountAll, Count, Sum, Min, Max}
-use Rattle.cql_reader.specs.Query.{Entries, All, Each, Reference, Window, Now, Range, RangeSlide}
-use Rattle.cql_reader.specs.Query.{Unbounded, Rows, Partition, Operand, Named, Number, Condition}
+use Rattle.cql_reader.specs.Query.{Query, WrittenSource, WrittenEntry, Column, CountAll, Of}
+use Rattle.cql_reader.specs.Query.{Entries, All, Each, Reference, WrittenWindow, Now, Range}
+use Rattle.cql_reader.specs.Query.{RangeSlide}
+use Rattle.cql_reader.specs.Query.{Unbounded, Rows, Partition, WrittenOperand, Named, Number}
+use Rattle.cql_reader.specs.Query.{WrittenCondition}
 use Rattle.cql_reader.specs.Query.{Compared, Not, And, Or}
 
 -- a token of this kind, which says nothing more
-abbrev pub token : Kind → Symbol
+abbrev pub token : TokenKind → Symbol
 token kind = Read (r.Fixed kind)
 
 -- the alternatives of each part of a query
@@ -43,11 +46,11 @@ alternatives p.ItemTail = (token k.Comma ∷ Rule p.Item ∷ Rule p.ItemTail ∷
 alternatives p.Item = (Rule p.Value ∷ Rule p.OptAs ∷ []) ∷ []
 alternatives p.Value = (Rule p.Column ∷ Emit m.Column ∷ [])
     ∷ (token k.Count ∷ token k.Open ∷ Rule p.Counted ∷ token k.Close ∷ [])
-    ∷ (token k.Sum ∷ token k.Open ∷ Rule p.Column ∷ token k.Close ∷ Emit m.Sum ∷ [])
-    ∷ (token k.Min ∷ token k.Open ∷ Rule p.Column ∷ token k.Close ∷ Emit m.Min ∷ [])
-    ∷ (token k.Max ∷ token k.Open ∷ Rule p.Column ∷ token k.Close ∷ Emit m.Max ∷ []) ∷ []
+    ∷ (token k.Sum ∷ token k.Open ∷ Rule p.Column ∷ token k.Close ∷ Emit (m.Of g.Sum) ∷ [])
+    ∷ (token k.Min ∷ token k.Open ∷ Rule p.Column ∷ token k.Close ∷ Emit (m.Of g.Min) ∷ [])
+    ∷ (token k.Max ∷ token k.Open ∷ Rule p.Column ∷ token k.Close ∷ Emit (m.Of g.Max) ∷ []) ∷ []
 alternatives p.Counted = (token k.Star ∷ Emit m.CountAll ∷ [])
-    ∷ (Rule p.Column ∷ Emit m.Count ∷ []) ∷ []
+    ∷ (Rule p.Column ∷ Emit (m.Of g.Count) ∷ []) ∷ []
 alternatives p.OptAs = (token k.As ∷ token k.Name ∷ []) ∷ ([]) ∷ []
 alternatives p.Column = (Read r.Column ∷ Rule p.ColumnTail ∷ []) ∷ []
 alternatives p.ColumnTail = (token k.Dot ∷ Read r.Qualified ∷ []) ∷ ([]) ∷ []
@@ -90,7 +93,7 @@ alternatives p.OptGroup = (token k.Group ∷ token k.By ∷ Rule p.Columns ∷ E
 alternatives p.End = (token k.Semicolon ∷ []) ∷ ([]) ∷ []
 
 -- the kind that a token of this role has
-unfoldable pub kind_of : Role → Kind
+unfoldable pub kind_of : Role → TokenKind
 kind_of (r.Fixed kind) = kind
 kind_of (r.Operator o.Istream) = k.Istream
 kind_of (r.Operator o.Dstream) = k.Dstream
@@ -118,29 +121,29 @@ kind_of (r.Deeper kind) = kind
 -- the condition as far as it is read: the last two operands, the
 -- last comparison, and the conditions that stand, the last first
 pub record Terms : Type 0 where
-  pub left : Operand
-  pub right : Operand
+  pub left : WrittenOperand
+  pub right : WrittenOperand
   pub how : Compare
-  pub standing : List Condition
+  pub standing : List WrittenCondition
 
 -- a query as far as it is read
 pub record Draft : Type 0 where
   pub operator : StreamOperator
   pub is_distinct : Bool
-  pub entries : List Entry
+  pub entries : List WrittenEntry
   -- the column that is read, and the list of columns
   pub reference : Reference
   pub columns : List Reference
   -- the source that is read, and those that are complete
-  pub source : Source
-  pub sources : List Source
+  pub source : WrittenSource
+  pub sources : List WrittenSource
   pub terms : Terms
   pub group : List Reference
   -- how many ( and Not of the condition are open
   pub depth : ℕ
 
 -- a source of which nothing is read
-abbrev pub no_source : Source
+abbrev pub no_source : WrittenSource
 no_source = record { stream = []; window = Unbounded; alias = None }
 
 abbrev pub no_terms : Terms
@@ -162,12 +165,12 @@ start = record {
 }
 
 -- `*` stands where the list has no item
-abbrev pub listed : List Entry → Entries
+abbrev pub listed : List WrittenEntry → Entries
 listed [] = All
 listed (entry ∷ entries) = Each (entry ∷ entries)
 
 -- the condition that stands last
-abbrev pub last_standing : List Condition → Option Condition
+abbrev pub last_standing : List WrittenCondition → Option WrittenCondition
 last_standing [] = None
 last_standing (a ∷ rest) = Some a
 
@@ -183,11 +186,11 @@ finished d = record {
 }
 
 -- the source with this window
-abbrev pub windowed : Window → Source → Source
+abbrev pub windowed : WrittenWindow → WrittenSource → WrittenSource
 windowed window s = record { stream = s.stream; window = window; alias = s.alias }
 
 -- a window of instants moves at multiples of the step alone
-abbrev pub sliding : ℕ → Window → Window
+abbrev pub sliding : ℕ → WrittenWindow → WrittenWindow
 sliding step Now = Now
 sliding step (Range instants) = RangeSlide instants step
 sliding step (RangeSlide instants other) = RangeSlide instants other
@@ -196,12 +199,12 @@ sliding step (Rows rows) = Rows rows
 sliding step (Partition by rows) = Partition by rows
 
 -- the last rows for each value of the columns, of which there is one at least
-abbrev pub partitioned : List Reference → ℕ → Window → Window
+abbrev pub partitioned : List Reference → ℕ → WrittenWindow → WrittenWindow
 partitioned [] rows window = window
 partitioned (column ∷ columns) rows window = Partition (column ∷ columns) rows
 
 -- one more operand
-abbrev pub sided : Operand → Terms → Terms
+abbrev pub sided : WrittenOperand → Terms → Terms
 sided operand t = record { left = t.right; right = operand; how = t.how; standing = t.standing }
 
 -- the last two operands stand compared
@@ -213,21 +216,21 @@ compared t = record {
   standing = Compared t.left t.how t.right ∷ t.standing;
 }
 
-abbrev pub negated : List Condition → List Condition
+abbrev pub negated : List WrittenCondition → List WrittenCondition
 negated [] = []
 negated (a ∷ rest) = Not a ∷ rest
 
-abbrev pub conjoined : List Condition → List Condition
+abbrev pub conjoined : List WrittenCondition → List WrittenCondition
 conjoined [] = []
 conjoined (b ∷ []) = b ∷ []
 conjoined (b ∷ a ∷ rest) = And a b ∷ rest
 
-abbrev pub disjoined : List Condition → List Condition
+abbrev pub disjoined : List WrittenCondition → List WrittenCondition
 disjoined [] = []
 disjoined (b ∷ []) = b ∷ []
 disjoined (b ∷ a ∷ rest) = Or a b ∷ rest
 
-abbrev pub standing_by : (List Condition → List Condition) → Terms → Terms
+abbrev pub standing_by : (List WrittenCondition → List WrittenCondition) → Terms → Terms
 standing_by f t = record { left = t.left; right = t.right; how = t.how; standing = f t.standing }
 
 -- the columns are those of the source's window
@@ -275,17 +278,14 @@ took (r.Compare how) bytes d =
 took (r.Deeper kind) bytes d = record d { depth = d.depth + 1 }
 
 -- the list with one more item
-abbrev pub entered : Entry → Draft → Draft
+abbrev pub entered : WrittenEntry → Draft → Draft
 entered entry d = record d { entries = d.entries ++ entry ∷ [] }
 
 -- what is done between tokens
 unfoldable pub did : Mark → Draft → Draft
 did m.Column d = entered (Column d.reference) d
 did m.CountAll d = entered CountAll d
-did m.Count d = entered (Count d.reference) d
-did m.Sum d = entered (Sum d.reference) d
-did m.Min d = entered (Min d.reference) d
-did m.Max d = entered (Max d.reference) d
+did (m.Of aggregate) d = entered (Of aggregate d.reference) d
 did m.Listed d = record d { columns = d.columns ++ d.reference ∷ [] }
 did m.Grouped d = record d { group = d.columns; columns = [] }
 did m.Source d = record d { sources = d.sources ++ d.source ∷ []; source = no_source }

@@ -4,8 +4,8 @@ use Rattle.std.specs.Prelude.{Option, Some, None, cond, is_some, nat_le, nat_lt,
 use Rattle.std.specs.Prelude.{length, min, codes, take, drop, ℤ, pos, negsuc, neg_ℤ}
 use Rattle.std.specs.List.{prefix_len}
 use Rattle.std.specs.Char.{to_ascii_lowercase}
-use Rattle.cql_reader.specs.declared.tokens.Kind.{Kind}
-use Rattle.cql_reader.specs.declared.tokens.Kind.TheVariants as k
+use Rattle.cql_reader.specs.declared.tokens.TokenKind.{TokenKind}
+use Rattle.cql_reader.specs.declared.tokens.TokenKind.TheVariants as k
 
 -- a space, a tab, a line feed or a carriage return
 abbrev pub is_blank : ℕ → Bool
@@ -22,7 +22,7 @@ abbrev pub is_word : ℕ → Bool
 is_word b = is_letter b || is_digit b
 
 -- the reserved words
-unfoldable pub reserved : List (List ℕ × Kind)
+unfoldable pub reserved : List (List ℕ × TokenKind)
 reserved =
     (codes "select", k.Select) ∷ (codes "distinct", k.Distinct) ∷ (codes "istream", k.Istream)
     ∷ (codes "dstream", k.Dstream)
@@ -47,7 +47,7 @@ unfoldable pub same_letters : List ℕ → List ℕ → Bool
 same_letters a b = same_bytes (map to_ascii_lowercase a) (map to_ascii_lowercase b)
 
 -- the kind that a list of words gives a word
-unfoldable pub kind_in : List (List ℕ × Kind) → List ℕ → Option Kind
+unfoldable pub kind_in : List (List ℕ × TokenKind) → List ℕ → Option TokenKind
 kind_in [] word = None
 kind_in (entry ∷ entries) word =
     cond (same_letters entry.0 word) (Some entry.1) (kind_in entries word)
@@ -56,12 +56,12 @@ kind_in (entry ∷ entries) word =
 abbrev pub is_reserved : List ℕ → Bool
 is_reserved word = is_some (kind_in reserved word)
 
-abbrev pub or_name : Option Kind → ℕ → Kind
+abbrev pub or_name : Option TokenKind → ℕ → TokenKind
 or_name (Some kind) len = kind
 or_name None len = cond (nat_le len 32) k.Name k.Word
 
 -- a reserved word, a name, or a word that is too long for a name
-unfoldable pub word_kind : List ℕ → Kind
+unfoldable pub word_kind : List ℕ → TokenKind
 word_kind word = or_name (kind_in reserved word) (length word)
 
 -- the first byte, or 0
@@ -88,7 +88,7 @@ is_name bytes =
     && not (is_reserved bytes)
 
 -- a symbol that compares, by its first two bytes, and how many bytes it takes
-abbrev pub comparison : ℕ → ℕ → Option (Kind × ℕ)
+abbrev pub comparison : ℕ → ℕ → Option (TokenKind × ℕ)
 comparison a b =
     cond (nat_eq a 61) (Some (k.Equal, 1)) (
     cond (nat_eq a 60) (cond (nat_eq b 61) (Some (k.AtMost, 2))
@@ -97,7 +97,7 @@ comparison a b =
     cond (nat_eq a 33) (cond (nat_eq b 61) (Some (k.Unequal, 2)) None) None)))
 
 -- a symbol by its first two bytes, and how many bytes it takes
-abbrev pub symbol : ℕ → ℕ → Option (Kind × ℕ)
+abbrev pub symbol : ℕ → ℕ → Option (TokenKind × ℕ)
 symbol a b =
     cond (nat_eq a 40) (Some (k.Open, 1)) (
     cond (nat_eq a 41) (Some (k.Close, 1)) (
@@ -110,7 +110,7 @@ symbol a b =
 
 -- the token that begins the bytes, and how many bytes it
 -- takes: the longest word, the longest number, or a symbol
-unfoldable pub token_at : List ℕ → Option (Kind × ℕ)
+unfoldable pub token_at : List ℕ → Option (TokenKind × ℕ)
 token_at bytes =
     cond (is_letter (first_byte bytes))
     (Some (word_kind (take (prefix_len is_word bytes) bytes), prefix_len is_word bytes)) (

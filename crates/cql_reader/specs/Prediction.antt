@@ -2,9 +2,9 @@
 use Rattle.std.specs.Prelude.{ℕ, zero, suc, ◌+◌, ◌*◌, Bool, true, false, ◌&&◌, ◌||◌, List, [], ◌∷◌}
 use Rattle.std.specs.Prelude.{◌++◌, cond, Option, Some, None, Result, Ok, Err}
 use denote.Enum.Bare.{sameb}
-use Rattle.cql_reader.specs.contracts.tokens.Kind.{the_type}
-use Rattle.cql_reader.specs.declared.tokens.Kind.{Kind}
-use Rattle.cql_reader.specs.declared.tokens.Kind.TheVariants as k
+use Rattle.cql_reader.specs.contracts.tokens.TokenKind.{the_type}
+use Rattle.cql_reader.specs.declared.tokens.TokenKind.{TokenKind}
+use Rattle.cql_reader.specs.declared.tokens.TokenKind.TheVariants as k
 use Rattle.cql_reader.specs.declared.symbols.Part.{Part}
 use Rattle.cql_reader.specs.declared.symbols.Part.TheVariants as p
 use Rattle.cql_reader.specs.declared.symbols.Symbol.{Symbol}
@@ -15,15 +15,15 @@ use Rattle.cql_reader.specs.Grammar.{alternatives, kind_of, in_range, may_open, 
 use Rattle.cql_reader.specs.Grammar.{start, whole}
 use Rattle.cql_reader.specs.Fault.{Fault, BadToken, Unexpected, NumberRange, TooDeep}
 
-abbrev pub same_kind : Kind → Kind → Bool
+abbrev pub same_kind : TokenKind → TokenKind → Bool
 same_kind a b = sameb the_type a b
 
-unfoldable pub has : List Kind → Kind → Bool
+unfoldable pub has : List TokenKind → TokenKind → Bool
 has [] kind = false
 has (x ∷ xs) kind = same_kind x kind || has xs kind
 
 -- the kinds that a part can begin with
-unfoldable pub first : Part → List Kind
+unfoldable pub first : Part → List TokenKind
 first p.Query = k.Select ∷ k.Istream ∷ k.Dstream ∷ k.Rstream ∷ []
 first p.Form = k.Select ∷ k.Istream ∷ k.Dstream ∷ k.Rstream ∷ []
 first p.Op = k.Istream ∷ k.Dstream ∷ k.Rstream ∷ []
@@ -107,7 +107,7 @@ nullable p.OptGroup = true
 nullable p.End = true
 
 -- whether the symbols can begin with a token of this kind
-unfoldable pub firsts : List Symbol → Kind → Bool
+unfoldable pub firsts : List Symbol → TokenKind → Bool
 firsts [] kind = false
 firsts (Read role ∷ xs) kind = same_kind (kind_of role) kind
 firsts (Rule part ∷ xs) kind = has (first part) kind || (nullable part && firsts xs kind)
@@ -130,13 +130,13 @@ or_else None b = b
 or_else (Some a) b = Some a
 
 -- the alternative that a part has at this next kind of token, or at the end of the text
-unfoldable pub chosen : Part → Option Kind → Option (List Symbol)
+unfoldable pub chosen : Part → Option TokenKind → Option (List Symbol)
 chosen part None = pick ends (alternatives part)
 chosen part (Some kind) = or_else (pick (λ ys. firsts ys kind) (alternatives part))
     (pick ends (alternatives part))
 
 -- the kind of the next token
-abbrev pub ahead : Scan → Option Kind
+abbrev pub ahead : Scan → Option TokenKind
 ahead (End place) = None
 ahead (Bad place) = None
 ahead (Then t more) = Some t.kind

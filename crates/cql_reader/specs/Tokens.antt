@@ -1,12 +1,12 @@
 -- The tokens of a text.
 use Rattle.std.specs.Prelude.{◌≡◌, ℕ, zero, suc, ◌+◌, ◌-◌, ◌<◌, ◌≤◌, Bool, true, false, List, []}
 use Rattle.std.specs.Prelude.{◌∷◌, Option, Some, None, length, take, drop, slice_index}
-use Rattle.cql_reader.specs.declared.tokens.Kind.{Kind}
+use Rattle.cql_reader.specs.declared.tokens.TokenKind.{TokenKind}
 use Rattle.cql_reader.specs.Lexis.{is_blank, token_at}
 
 -- a token: its kind, its bytes, and how many bytes of the text stand before it
 pub record Token : Type 0 where
-  pub kind : Kind
+  pub kind : TokenKind
   pub bytes : List ℕ
   pub place : ℕ
 
@@ -44,13 +44,13 @@ pub data Scan : Type 0 where
   Then : (t : Token) → (more : Scan) → Scan
 
 -- how many of the bytes belong to what begins them
-abbrev pub width : Bool → Option (Kind × ℕ) → ℕ
+abbrev pub width : Bool → Option (TokenKind × ℕ) → ℕ
 width true found = 1
 width false None = 1
 width false (Some found) = found.1
 
 -- what begins the bytes, then the rest
-abbrev pub scanned : Bool → Option (Kind × ℕ) → ℕ → List ℕ → Scan → Scan
+abbrev pub scanned : Bool → Option (TokenKind × ℕ) → ℕ → List ℕ → Scan → Scan
 scanned true found place bytes rest = rest
 scanned false None place bytes rest = Bad place
 scanned false (Some found) place bytes rest =

@@ -1,8 +1,9 @@
 -- What holds for each query that is read.
 use Rattle.std.specs.Prelude.{ℕ, ◌<◌, ◌≤◌, Option, Some, None, length, All as Each'}
 use Rattle.values.specs.Value.{IsStreamNumber}
-use Rattle.cql_reader.specs.Query.{Query, Entries, All, Each, Window, Now, Range, RangeSlide}
-use Rattle.cql_reader.specs.Query.{Unbounded, Rows, Partition, Operand, Named, Number, Condition}
+use Rattle.cql_reader.specs.Query.{Query, Entries, All, Each, WrittenWindow, Now, Range, RangeSlide}
+use Rattle.cql_reader.specs.Query.{Unbounded, Rows, Partition, WrittenOperand, Named, Number}
+use Rattle.cql_reader.specs.Query.{WrittenCondition}
 use Rattle.cql_reader.specs.Query.{Compared, Not, And, Or}
 use Rattle.cql_reader.specs.declared.TheConstants.{MAX_SOURCES}
 
@@ -15,7 +16,7 @@ abbrev pub IsRowCount : ℕ → Type 0
 IsRowCount rows = (1 ≤ rows) × (rows ≤ 65536)
 
 -- a window's numbers are in their ranges, and there are columns to part by
-abbrev pub IsGoodWindow : Window → Type 0
+abbrev pub IsGoodWindow : WrittenWindow → Type 0
 IsGoodWindow Now = Unit {0}
 IsGoodWindow (Range instants) = instants ≤ 1099511627776
 IsGoodWindow (RangeSlide instants step) =
@@ -24,18 +25,18 @@ IsGoodWindow Unbounded = Unit {0}
 IsGoodWindow (Rows rows) = IsRowCount rows
 IsGoodWindow (Partition by rows) = (0 < length by) × IsRowCount rows
 
-abbrev pub IsGoodOperand : Operand → Type 0
+abbrev pub IsGoodOperand : WrittenOperand → Type 0
 IsGoodOperand (Named reference) = Unit {0}
 IsGoodOperand (Number z) = IsStreamNumber z
 
 -- a condition's numbers are those of a stream
-abbrev pub IsGoodCondition : Condition → Type 0
+abbrev pub IsGoodCondition : WrittenCondition → Type 0
 IsGoodCondition (Compared a how b) = IsGoodOperand a × IsGoodOperand b
 IsGoodCondition (Not a) = IsGoodCondition a
 IsGoodCondition (And a b) = IsGoodCondition a × IsGoodCondition b
 IsGoodCondition (Or a b) = IsGoodCondition a × IsGoodCondition b
 
-abbrev pub IsGoodWhere : Option Condition → Type 0
+abbrev pub IsGoodWhere : Option WrittenCondition → Type 0
 IsGoodWhere None = Unit {0}
 IsGoodWhere (Some a) = IsGoodCondition a
 

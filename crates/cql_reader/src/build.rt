@@ -2,7 +2,7 @@
 
 ghost use Rattle.std.specs.Prelude.{◌≡◌, ◌≤◌, true, length, map, OnOk};
 ghost use Rattle.cql_reader.specs.Lexis.{number_of};
-ghost use Rattle.cql_reader.specs.declared.tokens.Kind.TheVariants as kinds;
+ghost use Rattle.cql_reader.specs.declared.tokens.TokenKind.TheVariants as kinds;
 ghost use Rattle.cql_reader.specs.declared.symbols.Mark.TheVariants as marks;
 ghost use Rattle.cql_reader.specs.Grammar.{kind_of, in_range, may_open, took, did, entered, parted};
 ghost use Rattle.cql_reader.specs.Grammar.{slid, listed, start, finished, no_source};
@@ -11,7 +11,9 @@ ghost use Rattle.cql_reader.specs.Coded.{draft_of};
 
 use crate::name::Name;
 use crate::numbers::{natural_in, number_in};
-use crate::query::{Entries, Entry, Operand, Query, Reference, Source, Window};
+use crate::query::{
+    Entries, Query, Reference, WrittenEntry, WrittenOperand, WrittenSource, WrittenWindow,
+};
 use crate::stack::Terms;
 use crate::symbols::{Mark, Role};
 use std::alloc::{AllocError, Global};
@@ -26,15 +28,15 @@ pub struct Draft {
     /// Says whether `Distinct` was read.
     pub is_distinct: bool,
     /// Holds the entries of the list that are complete.
-    pub entries: Vec<Entry>,
+    pub entries: Vec<WrittenEntry>,
     /// Holds the column that is being read.
     pub reference: Reference,
     /// Holds the columns of the list that is being read.
     pub columns: Vec<Reference>,
     /// Holds the source that is being read.
-    pub source: Source,
+    pub source: WrittenSource,
     /// Holds the sources that are complete.
-    pub sources: Vec<Source>,
+    pub sources: Vec<WrittenSource>,
     /// Holds what is known of the condition.
     pub terms: Terms,
     /// Holds the columns of `Group By` that are complete.
@@ -90,20 +92,20 @@ impl Draft {
                 }
             }
             Role::Stream => {
-                self.source = Source {
+                self.source = WrittenSource {
                     stream: Name::new(bytes),
-                    window: Window::Unbounded,
+                    window: WrittenWindow::Unbounded,
                     alias: None,
                 }
             }
             Role::Alias => self.source.alias = Some(Name::new(bytes)),
-            Role::Now => self.source.window = Window::Now,
-            Role::Range => self.source.window = Window::Range(natural_in(bytes)),
+            Role::Now => self.source.window = WrittenWindow::Now,
+            Role::Range => self.source.window = WrittenWindow::Range(natural_in(bytes)),
             Role::Slide => self.slide(natural_in(bytes)),
-            Role::Unbounded => self.source.window = Window::Unbounded,
-            Role::Rows => self.source.window = Window::Rows(natural_in(bytes)),
+            Role::Unbounded => self.source.window = WrittenWindow::Unbounded,
+            Role::Rows => self.source.window = WrittenWindow::Rows(natural_in(bytes)),
             Role::Partition => self.partition(alloc, natural_in(bytes)),
-            Role::Number => self.terms.push(Operand::Number(number_in(bytes))),
+            Role::Number => self.terms.push(WrittenOperand::Number(number_in(bytes))),
             Role::Compare(compare) => self.terms.how = compare,
             Role::Deeper(_) => self.depth += 1,
         }
@@ -113,8 +115,8 @@ impl Draft {
     fn slide(&mut self, step: u64)
         ensures { draft_of self.new ≡ slid step (draft_of self.old) }
     {
-        if let Window::Range(instants) = self.source.window {
-            self.source.window = Window::RangeSlide(instants, step);
+        if let WrittenWindow::Range(instants) = self.source.window {
+            self.source.window = WrittenWindow::RangeSlide(instants, step);
         }
     }
 
@@ -126,7 +128,7 @@ impl Draft {
             return;
         }
         let columns = mem::replace(&mut self.columns, Vec::new(alloc));
-        self.source.window = Window::Partition(columns, rows);
+        self.source.window = WrittenWindow::Partition(columns, rows);
     }
 
     /// Does what the mark says, between two tokens.
@@ -139,12 +141,9 @@ impl Draft {
     {
         let reference = self.reference;
         match mark {
-            Mark::Column => self.enter(Entry::Column(reference)),
-            Mark::CountAll => self.enter(Entry::CountAll),
-            Mark::Count => self.enter(Entry::Count(reference)),
-            Mark::Sum => self.enter(Entry::Sum(reference)),
-            Mark::Min => self.enter(Entry::Min(reference)),
-            Mark::Max => self.enter(Entry::Max(reference)),
+            Mark::Column => self.enter(WrittenEntry::Column(reference)),
+            Mark::CountAll => self.enter(WrittenEntry::CountAll),
+            Mark::Of(aggregate) => self.enter(WrittenEntry::Of(aggregate, reference)),
             Mark::Listed => self.list(),
             Mark::Grouped => {
                 self.group = mem::replace(&mut self.columns, Vec::new(alloc));
@@ -152,7 +151,7 @@ impl Draft {
             }
             Mark::Source => self.add_source(),
             Mark::Named => {
-                self.terms.push(Operand::Column(reference));
+                self.terms.push(WrittenOperand::Column(reference));
                 Ok(())
             }
             Mark::Compared => self.terms.compare(),
@@ -167,7 +166,7 @@ impl Draft {
     }
 
     /// Adds an item.
-    fn enter(&mut self, entry: Entry) -> Result<(), AllocError>
+    fn enter(&mut self, entry: WrittenEntry) -> Result<(), AllocError>
         ensures { OnOk result (draft_of self.new ≡ entered (entry_of entry) (draft_of self.old)) }
     {
         self.entries.push(entry)?;
@@ -210,7 +209,7 @@ impl Draft {
 }
 
 /// Returns the list of these items, which is `*` where there is none.
-fn list_of(items: Vec<Entry>) -> Entries
+fn list_of(items: Vec<WrittenEntry>) -> Entries
     ensures { entries_of result ≡ listed (map entry_of items.items) }
 {
     if items.is_empty() {
@@ -221,12 +220,12 @@ fn list_of(items: Vec<Entry>) -> Entries
 }
 
 /// Returns a source where nothing is read yet.
-fn empty_source() -> Source
+fn empty_source() -> WrittenSource
     ensures { source_of result ≡ no_source }
 {
-    Source {
+    WrittenSource {
         stream: Name::new(b""),
-        window: Window::Unbounded,
+        window: WrittenWindow::Unbounded,
         alias: None,
     }
 }

@@ -6,11 +6,11 @@ ghost use Rattle.cql_reader.specs.Prediction.{chosen, ends, firsts, has, nullabl
 
 use crate::symbols::{Part, Role, Symbol};
 use crate::tables::{alternatives_of, first_of};
-use crate::tokens::Kind;
+use crate::tokens::TokenKind;
 use values::{Compare, StreamOperator};
 
 /// Returns the alternative that a part has before this kind of token, or at the end of the text.
-pub fn choose(part: Part, next: Option<Kind>) -> Option<&'static [Symbol]>
+pub fn choose(part: Part, next: Option<TokenKind>) -> Option<&'static [Symbol]>
     ensures { MatchOption result (chosen part next ≡ None) (λ symbols. chosen part next
         ≡ Some symbols.now) }
 {
@@ -25,7 +25,10 @@ pub fn choose(part: Part, next: Option<Kind>) -> Option<&'static [Symbol]>
 }
 
 /// Returns the alternative that can start with this kind.
-fn beginning(alternatives: &'static [&'static [Symbol]], kind: Kind) -> Option<&'static [Symbol]>
+fn beginning(
+    alternatives: &'static [&'static [Symbol]],
+    kind: TokenKind,
+) -> Option<&'static [Symbol]>
     ensures { let found = pick (λ ys. firsts ys kind)
         (map (λ symbols. symbols.now) alternatives.now) in
         MatchOption result (found ≡ None) (λ symbols. found ≡ Some symbols.now) }
@@ -52,7 +55,7 @@ fn ending(alternatives: &'static [&'static [Symbol]]) -> Option<&'static [Symbol
 }
 
 /// Returns whether the symbols can start with this kind.
-fn begins(symbols: &[Symbol], kind: Kind) -> bool
+fn begins(symbols: &[Symbol], kind: TokenKind) -> bool
     ensures { result ≡ firsts symbols.now kind }
 {
     for symbol in symbols {
@@ -73,7 +76,7 @@ fn begins(symbols: &[Symbol], kind: Kind) -> bool
 }
 
 /// Returns whether this kind is among the kinds.
-fn has_kind(kinds: &[Kind], kind: Kind) -> bool
+fn has_kind(kinds: &[TokenKind], kind: TokenKind) -> bool
     ensures { result ≡ has kinds.now kind }
 {
     for own in kinds {
@@ -152,32 +155,32 @@ fn may_be_missing(part: Part) -> bool
 
 /// Returns the kind that a token of this role has.
 #[tactic(auto, unfolding(crate::specs::Grammar::kind_of))]
-pub fn kind_of_role(role: Role) -> Kind
+pub fn kind_of_role(role: Role) -> TokenKind
     ensures { result ≡ kind_of role }
 {
     match role {
         Role::Fixed(kind) => kind,
-        Role::Operator(StreamOperator::Istream) => Kind::Istream,
-        Role::Operator(StreamOperator::Dstream) => Kind::Dstream,
-        Role::Operator(StreamOperator::Rstream) => Kind::Rstream,
-        Role::Distinct => Kind::Distinct,
-        Role::Column => Kind::Name,
-        Role::Qualified => Kind::Name,
-        Role::Stream => Kind::Name,
-        Role::Alias => Kind::Name,
-        Role::Now => Kind::Now,
-        Role::Range => Kind::Number,
-        Role::Slide => Kind::Number,
-        Role::Unbounded => Kind::Unbounded,
-        Role::Rows => Kind::Number,
-        Role::Partition => Kind::Number,
-        Role::Number => Kind::Number,
-        Role::Compare(Compare::Equals) => Kind::Equal,
-        Role::Compare(Compare::Differs) => Kind::Unequal,
-        Role::Compare(Compare::Below) => Kind::Less,
-        Role::Compare(Compare::AtMost) => Kind::AtMost,
-        Role::Compare(Compare::Above) => Kind::Greater,
-        Role::Compare(Compare::AtLeast) => Kind::AtLeast,
+        Role::Operator(StreamOperator::Istream) => TokenKind::Istream,
+        Role::Operator(StreamOperator::Dstream) => TokenKind::Dstream,
+        Role::Operator(StreamOperator::Rstream) => TokenKind::Rstream,
+        Role::Distinct => TokenKind::Distinct,
+        Role::Column => TokenKind::Name,
+        Role::Qualified => TokenKind::Name,
+        Role::Stream => TokenKind::Name,
+        Role::Alias => TokenKind::Name,
+        Role::Now => TokenKind::Now,
+        Role::Range => TokenKind::Number,
+        Role::Slide => TokenKind::Number,
+        Role::Unbounded => TokenKind::Unbounded,
+        Role::Rows => TokenKind::Number,
+        Role::Partition => TokenKind::Number,
+        Role::Number => TokenKind::Number,
+        Role::Compare(Compare::Equals) => TokenKind::Equal,
+        Role::Compare(Compare::Differs) => TokenKind::Unequal,
+        Role::Compare(Compare::Below) => TokenKind::Less,
+        Role::Compare(Compare::AtMost) => TokenKind::AtMost,
+        Role::Compare(Compare::Above) => TokenKind::Greater,
+        Role::Compare(Compare::AtLeast) => TokenKind::AtLeast,
         Role::Deeper(kind) => kind,
     }
 }

@@ -32,7 +32,10 @@ mod words;
 pub use laws::{every_query_is_well_formed, every_text_has_one_answer};
 pub use machine::read;
 pub use name::{MAX_NAME, Name};
-pub use query::{Condition, Entries, Entry, Operand, Query, Reference, Source, Window};
+pub use query::{
+    Entries, Query, Reference, WrittenCondition, WrittenEntry, WrittenOperand, WrittenSource,
+    WrittenWindow,
+};
 pub use words::is_name;
 
 /// Limits the bytes of a query text.

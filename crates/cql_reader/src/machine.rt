@@ -18,7 +18,7 @@ use crate::numbers::number_in;
 use crate::query::Query;
 use crate::scan::next_token;
 use crate::symbols::{Part, Role, Symbol};
-use crate::tokens::{Kind, Token};
+use crate::tokens::{Token, TokenKind};
 use crate::{MAX_DEPTH, MAX_TEXT, ReadFault};
 use std::alloc::{AllocError, Global};
 
@@ -92,7 +92,7 @@ fn push_all(stack: &mut Vec<Symbol>, symbols: &[Symbol]) -> Result<(), AllocErro
 }
 
 /// Returns the kind of the next token, or None at the end of the text.
-fn kind_ahead(text: &[u8], next: Option<Token>) -> Option<Kind>
+fn kind_ahead(text: &[u8], next: Option<Token>) -> Option<TokenKind>
     ensures { result ≡ ahead (rest_of text.now next) }
 {
     match next {
@@ -112,7 +112,7 @@ fn unexpected(text: &[u8], next: Option<Token>) -> ReadFault
 }
 
 /// Returns whether a token of this kind may have the role.
-fn is_of(kind: Kind, role: Role) -> bool
+fn is_of(kind: TokenKind, role: Role) -> bool
     ensures { IsTrue result ↔ kind ≡ kind_of role }
 {
     kind == kind_of_role(role)

@@ -1,6 +1,6 @@
 //! Holds the syntax tree of a query: what its text says, before its names are looked up.
 use crate::name::Name;
-use values::{Compare, StreamOperator};
+use values::{Aggregate, Compare, StreamOperator};
 
 /// Names a column as a text does: by its name only, or with the name of its source in front.
 #[derive(Clone, Copy, Debug)]
@@ -13,19 +13,13 @@ pub struct Reference {
 
 /// Is an item of the list of a query.
 #[derive(Clone, Copy, Debug)]
-pub enum Entry {
+pub enum WrittenEntry {
     /// Lists a column.
     Column(Reference),
     /// Lists `Count(*)`.
     CountAll,
-    /// Lists `Count` of a column.
-    Count(Reference),
-    /// Lists `Sum` of a column.
-    Sum(Reference),
-    /// Lists `Min` of a column.
-    Min(Reference),
-    /// Lists `Max` of a column.
-    Max(Reference),
+    /// Lists the aggregate of a column.
+    Of(Aggregate, Reference),
 }
 
 /// Is the list of a query.
@@ -34,12 +28,12 @@ pub enum Entries {
     /// Lists all columns: `*`.
     All,
     /// Lists the items, one or more.
-    Each(Vec<Entry>),
+    Each(Vec<WrittenEntry>),
 }
 
 /// Is the window on a stream.
 #[derive(Debug, Drop)]
-pub enum Window {
+pub enum WrittenWindow {
     /// Shows the rows of the instant itself.
     Now,
     /// Shows the rows of the instant and of as many instants before it as the number says, at most
@@ -59,29 +53,29 @@ pub enum Window {
 /// Holds one source of a query: a stream, the window on it, and its name in the query where it has
 /// one of its own.
 #[derive(Debug, Drop)]
-pub struct Source {
+pub struct WrittenSource {
     /// Holds the name of the stream.
     pub stream: Name,
     /// Holds the window over the stream.
-    pub window: Window,
+    pub window: WrittenWindow,
     /// Holds the name that the text gives the source, if it gives one.
     pub alias: Option<Name>,
 }
 
 /// Is a side of a comparison. A number is one of the stream range.
 #[derive(Clone, Copy, Debug)]
-pub enum Operand {
+pub enum WrittenOperand {
     Column(Reference),
     Number(i64),
 }
 
 /// Holds what Where says.
 #[derive(Debug, Drop)]
-pub enum Condition {
-    Compared(Operand, Compare, Operand),
-    Not(Box<Condition>),
-    And(Box<Condition>, Box<Condition>),
-    Or(Box<Condition>, Box<Condition>),
+pub enum WrittenCondition {
+    Compared(WrittenOperand, Compare, WrittenOperand),
+    Not(Box<WrittenCondition>),
+    And(Box<WrittenCondition>, Box<WrittenCondition>),
+    Or(Box<WrittenCondition>, Box<WrittenCondition>),
 }
 
 /// Holds a query as it is written, before its names are looked up.
@@ -94,9 +88,9 @@ pub struct Query {
     /// Holds the list: all columns, or entries.
     pub entries: Entries,
     /// Holds the sources of the `From`, in order: one to four.
-    pub sources: Vec<Source>,
+    pub sources: Vec<WrittenSource>,
     /// Holds the condition after `Where`, if the query has it.
-    pub condition: Option<Condition>,
+    pub condition: Option<WrittenCondition>,
     /// Holds the columns of `Group By`; none where it is missing.
     pub group: Vec<Reference>,
 }

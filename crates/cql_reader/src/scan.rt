@@ -4,15 +4,15 @@ ghost use Rattle.std.specs.Prelude.{◌≡◌, ◌+◌, ◌<◌, ◌≤◌, leng
 ghost use Rattle.cql_reader.specs.Lexis.{token_at, symbol, comparison};
 ghost use Rattle.cql_reader.specs.Tokens.{scan_from};
 ghost use Rattle.cql_reader.specs.Coded.{IsNext};
-ghost use Rattle.cql_reader.specs.declared.tokens.Kind.TheVariants as kinds;
+ghost use Rattle.cql_reader.specs.declared.tokens.TokenKind.TheVariants as kinds;
 
 use crate::ReadFault;
 use crate::bytes::{blanks, digit, digits, first_of, letter, second_of, word_len};
-use crate::tokens::{Kind, Token};
+use crate::tokens::{Token, TokenKind};
 use crate::words::kind_of_word;
 
 /// Returns the comparison symbol that two bytes start with, and how many bytes it takes.
-fn comparison_of(first: u8, second: u8) -> Option<(Kind, usize)>
+fn comparison_of(first: u8, second: u8) -> Option<(TokenKind, usize)>
     ensures symbol { result ≡ comparison first second }
     ensures forward { IfSome result (λ found. 0 < found.1) }
     ensures one { IfSome result (λ found. second ≡ 0 → found.1 ≤ 1) }
@@ -20,24 +20,24 @@ fn comparison_of(first: u8, second: u8) -> Option<(Kind, usize)>
     ensures mark { IfSome result (λ found. found.0 ≡ kinds.Name → found.1 ≤ 32) }
 {
     if first == b'=' {
-        Some((Kind::Equal, 1))
+        Some((TokenKind::Equal, 1))
     } else if first == b'<' {
         if second == b'=' {
-            Some((Kind::AtMost, 2))
+            Some((TokenKind::AtMost, 2))
         } else if second == b'>' {
-            Some((Kind::Unequal, 2))
+            Some((TokenKind::Unequal, 2))
         } else {
-            Some((Kind::Less, 1))
+            Some((TokenKind::Less, 1))
         }
     } else if first == b'>' {
         if second == b'=' {
-            Some((Kind::AtLeast, 2))
+            Some((TokenKind::AtLeast, 2))
         } else {
-            Some((Kind::Greater, 1))
+            Some((TokenKind::Greater, 1))
         }
     } else if first == b'!' {
         if second == b'=' {
-            Some((Kind::Unequal, 2))
+            Some((TokenKind::Unequal, 2))
         } else {
             None
         }
@@ -47,7 +47,7 @@ fn comparison_of(first: u8, second: u8) -> Option<(Kind, usize)>
 }
 
 /// Returns the symbol that two bytes start with, and how many bytes it takes.
-fn symbol_of(first: u8, second: u8) -> Option<(Kind, usize)>
+fn symbol_of(first: u8, second: u8) -> Option<(TokenKind, usize)>
     ensures symbol { result ≡ symbol first second }
     ensures forward { IfSome result (λ found. 0 < found.1) }
     ensures one { IfSome result (λ found. second ≡ 0 → found.1 ≤ 1) }
@@ -55,21 +55,21 @@ fn symbol_of(first: u8, second: u8) -> Option<(Kind, usize)>
     ensures mark { IfSome result (λ found. found.0 ≡ kinds.Name → found.1 ≤ 32) }
 {
     if first == b'(' {
-        Some((Kind::Open, 1))
+        Some((TokenKind::Open, 1))
     } else if first == b')' {
-        Some((Kind::Close, 1))
+        Some((TokenKind::Close, 1))
     } else if first == b'[' {
-        Some((Kind::Left, 1))
+        Some((TokenKind::Left, 1))
     } else if first == b']' {
-        Some((Kind::Right, 1))
+        Some((TokenKind::Right, 1))
     } else if first == b',' {
-        Some((Kind::Comma, 1))
+        Some((TokenKind::Comma, 1))
     } else if first == b'.' {
-        Some((Kind::Dot, 1))
+        Some((TokenKind::Dot, 1))
     } else if first == b';' {
-        Some((Kind::Semicolon, 1))
+        Some((TokenKind::Semicolon, 1))
     } else if first == b'*' {
-        Some((Kind::Star, 1))
+        Some((TokenKind::Star, 1))
     } else {
         comparison_of(first, second)
     }
@@ -77,7 +77,7 @@ fn symbol_of(first: u8, second: u8) -> Option<(Kind, usize)>
 
 /// Returns the token that the bytes start with, and how many bytes it takes.
 #[tactic(auto, unfolding(crate::specs::Lexis::token_at))]
-fn token_of(bytes: &[u8]) -> Option<(Kind, usize)>
+fn token_of(bytes: &[u8]) -> Option<(TokenKind, usize)>
     requires { 0 < length bytes.now }
     ensures token { result ≡ token_at bytes.now }
     ensures forward { IfSome result (λ found. 0 < found.1) }
@@ -89,13 +89,13 @@ fn token_of(bytes: &[u8]) -> Option<(Kind, usize)>
         let len = word_len(bytes);
         Some((kind_of_word(&bytes[..len]), len))
     } else if digit(first) {
-        Some((Kind::Number, digits(bytes)))
+        Some((TokenKind::Number, digits(bytes)))
     } else if first == b'-' {
         let len = digits(&bytes[1..]);
         if len == 0 {
             None
         } else {
-            Some((Kind::Number, 1 + len))
+            Some((TokenKind::Number, 1 + len))
         }
     } else {
         symbol_of(first, second_of(bytes))

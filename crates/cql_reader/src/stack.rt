@@ -6,7 +6,7 @@ ghost use Rattle.cql_reader.specs.Grammar.{no_terms, sided, compared, negated, c
 ghost use Rattle.cql_reader.specs.Grammar.{disjoined, standing_by};
 ghost use Rattle.cql_reader.specs.Coded.{terms_of, standing_of};
 
-use crate::query::{Condition, Operand};
+use crate::query::{WrittenCondition, WrittenOperand};
 use std::alloc::{AllocError, Global};
 use values::Compare;
 
@@ -15,13 +15,13 @@ use values::Compare;
 #[derive(Drop)]
 pub struct Terms {
     /// Holds the operand before the last.
-    pub left: Operand,
+    pub left: WrittenOperand,
     /// Holds the last operand.
-    pub right: Operand,
+    pub right: WrittenOperand,
     /// Holds the last comparison.
     pub how: Compare,
     /// Holds the conditions that are complete, the last on top.
-    pub standing: Vec<Condition>,
+    pub standing: Vec<WrittenCondition>,
 }
 
 impl Terms {
@@ -30,15 +30,15 @@ impl Terms {
         ensures { terms_of result ≡ no_terms }
     {
         Terms {
-            left: Operand::Number(0),
-            right: Operand::Number(0),
+            left: WrittenOperand::Number(0),
+            right: WrittenOperand::Number(0),
             how: Compare::Equals,
             standing: Vec::new(alloc),
         }
     }
 
     /// Adds an operand.
-    pub fn push(&mut self, operand: Operand)
+    pub fn push(&mut self, operand: WrittenOperand)
         ensures { terms_of self.new ≡ sided (operand_of operand) (terms_of self.old) }
     {
         self.left = self.right;
@@ -52,8 +52,7 @@ impl Terms {
     pub fn compare(&mut self) -> Result<(), AllocError>
         ensures { OnOk result (terms_of self.new ≡ compared (terms_of self.old)) }
     {
-        self.standing
-            .push(Condition::Compared(self.left, self.how, self.right))?;
+        self.standing.push(WrittenCondition::Compared(self.left, self.how, self.right))?;
         Ok(())
     }
 
@@ -89,7 +88,7 @@ impl Terms {
 }
 
 /// Negates the last condition, if there is one.
-fn negate(alloc: Global, standing: &mut Vec<Condition>) -> Result<(), AllocError>
+fn negate(alloc: Global, standing: &mut Vec<WrittenCondition>) -> Result<(), AllocError>
     ensures { OnOk result (standing_of standing.new.items
         ≡ negated (standing_of standing.old.items)) }
 {
@@ -97,14 +96,14 @@ fn negate(alloc: Global, standing: &mut Vec<Condition>) -> Result<(), AllocError
         None => Ok(()),
         Some(last) => {
             let last = Box::new(alloc, last)?;
-            standing.push(Condition::Not(last))?;
+            standing.push(WrittenCondition::Not(last))?;
             Ok(())
         }
     }
 }
 
 /// Joins the last two conditions, in order, by And; fewer than two stay as they are.
-fn conjoin(alloc: Global, standing: &mut Vec<Condition>) -> Result<(), AllocError>
+fn conjoin(alloc: Global, standing: &mut Vec<WrittenCondition>) -> Result<(), AllocError>
     ensures { OnOk result (standing_of standing.new.items
         ≡ conjoined (standing_of standing.old.items)) }
 {
@@ -118,7 +117,7 @@ fn conjoin(alloc: Global, standing: &mut Vec<Condition>) -> Result<(), AllocErro
             Some(before) => {
                 let left = Box::new(alloc, before)?;
                 let right = Box::new(alloc, last)?;
-                standing.push(Condition::And(left, right))?;
+                standing.push(WrittenCondition::And(left, right))?;
                 Ok(())
             }
         },
@@ -126,7 +125,7 @@ fn conjoin(alloc: Global, standing: &mut Vec<Condition>) -> Result<(), AllocErro
 }
 
 /// Joins the last two conditions, in order, by Or; fewer than two stay as they are.
-fn disjoin(alloc: Global, standing: &mut Vec<Condition>) -> Result<(), AllocError>
+fn disjoin(alloc: Global, standing: &mut Vec<WrittenCondition>) -> Result<(), AllocError>
     ensures { OnOk result (standing_of standing.new.items
         ≡ disjoined (standing_of standing.old.items)) }
 {
@@ -140,7 +139,7 @@ fn disjoin(alloc: Global, standing: &mut Vec<Condition>) -> Result<(), AllocErro
             Some(before) => {
                 let left = Box::new(alloc, before)?;
                 let right = Box::new(alloc, last)?;
-                standing.push(Condition::Or(left, right))?;
+                standing.push(WrittenCondition::Or(left, right))?;
                 Ok(())
             }
         },

@@ -1,7 +1,7 @@
 //! Defines the symbols of the grammar.
 
-use crate::tokens::Kind;
-use values::{Compare, StreamOperator};
+use crate::tokens::TokenKind;
+use values::{Aggregate, Compare, StreamOperator};
 
 /// Names a part of a query.
 #[derive(Clone, Copy)]
@@ -51,7 +51,7 @@ pub enum Part {
 #[derive(Clone, Copy)]
 pub enum Role {
     /// Is a token of this kind, which says nothing more.
-    Fixed(Kind),
+    Fixed(TokenKind),
     /// Is the word of an operator.
     Operator(StreamOperator),
     /// Is the word that asks for each row once.
@@ -81,7 +81,7 @@ pub enum Role {
     /// Says how two sides are compared.
     Compare(Compare),
     /// Is a `(` or `Not` of the condition, which makes one more that is open.
-    Deeper(Kind),
+    Deeper(TokenKind),
 }
 
 /// Says what is done between tokens.
@@ -91,14 +91,8 @@ pub enum Mark {
     Column,
     /// Makes `Count(*)` an item.
     CountAll,
-    /// Makes `Count` of the column an item.
-    Count,
-    /// Makes `Sum` of the column an item.
-    Sum,
-    /// Makes `Min` of the column an item.
-    Min,
-    /// Makes `Max` of the column an item.
-    Max,
+    /// Makes the aggregate of the column an item.
+    Of(Aggregate),
     /// Adds the column to a list of columns.
     Listed,
     /// Makes the list of columns that of `Group By`.

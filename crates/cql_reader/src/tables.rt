@@ -5,8 +5,8 @@ ghost use Rattle.cql_reader.specs.Grammar.{alternatives};
 ghost use Rattle.cql_reader.specs.Prediction.{first};
 
 use crate::symbols::{Mark, Part, Role, Symbol};
-use crate::tokens::Kind;
-use values::{Compare, StreamOperator};
+use crate::tokens::TokenKind;
+use values::{Aggregate, Compare, StreamOperator};
 
 /// Returns the alternatives of a part.
 #[tactic(auto, unfolding(crate::specs::Grammar::alternatives))]
@@ -17,20 +17,20 @@ pub fn alternatives_of(part: Part) -> &'static [&'static [Symbol]]
         Part::Query => &[&[Symbol::Rule(Part::Form), Symbol::Rule(Part::End)]],
         Part::Form => &[
             &[
-                Symbol::Read(Role::Fixed(Kind::Select)),
+                Symbol::Read(Role::Fixed(TokenKind::Select)),
                 Symbol::Rule(Part::Op),
-                Symbol::Read(Role::Fixed(Kind::Open)),
+                Symbol::Read(Role::Fixed(TokenKind::Open)),
                 Symbol::Rule(Part::Body),
-                Symbol::Read(Role::Fixed(Kind::Close)),
+                Symbol::Read(Role::Fixed(TokenKind::Close)),
                 Symbol::Rule(Part::Rest),
             ],
             &[
                 Symbol::Rule(Part::Op),
-                Symbol::Read(Role::Fixed(Kind::Open)),
-                Symbol::Read(Role::Fixed(Kind::Select)),
+                Symbol::Read(Role::Fixed(TokenKind::Open)),
+                Symbol::Read(Role::Fixed(TokenKind::Select)),
                 Symbol::Rule(Part::Body),
                 Symbol::Rule(Part::Rest),
-                Symbol::Read(Role::Fixed(Kind::Close)),
+                Symbol::Read(Role::Fixed(TokenKind::Close)),
             ],
         ],
         Part::Op => &[
@@ -41,12 +41,12 @@ pub fn alternatives_of(part: Part) -> &'static [&'static [Symbol]]
         Part::Body => &[&[Symbol::Rule(Part::OptDistinct), Symbol::Rule(Part::List)]],
         Part::OptDistinct => &[&[Symbol::Read(Role::Distinct)], &[]],
         Part::List => &[
-            &[Symbol::Read(Role::Fixed(Kind::Star))],
+            &[Symbol::Read(Role::Fixed(TokenKind::Star))],
             &[Symbol::Rule(Part::Item), Symbol::Rule(Part::ItemTail)],
         ],
         Part::ItemTail => &[
             &[
-                Symbol::Read(Role::Fixed(Kind::Comma)),
+                Symbol::Read(Role::Fixed(TokenKind::Comma)),
                 Symbol::Rule(Part::Item),
                 Symbol::Rule(Part::ItemTail),
             ],
@@ -56,57 +56,60 @@ pub fn alternatives_of(part: Part) -> &'static [&'static [Symbol]]
         Part::Value => &[
             &[Symbol::Rule(Part::Column), Symbol::Emit(Mark::Column)],
             &[
-                Symbol::Read(Role::Fixed(Kind::Count)),
-                Symbol::Read(Role::Fixed(Kind::Open)),
+                Symbol::Read(Role::Fixed(TokenKind::Count)),
+                Symbol::Read(Role::Fixed(TokenKind::Open)),
                 Symbol::Rule(Part::Counted),
-                Symbol::Read(Role::Fixed(Kind::Close)),
+                Symbol::Read(Role::Fixed(TokenKind::Close)),
             ],
             &[
-                Symbol::Read(Role::Fixed(Kind::Sum)),
-                Symbol::Read(Role::Fixed(Kind::Open)),
+                Symbol::Read(Role::Fixed(TokenKind::Sum)),
+                Symbol::Read(Role::Fixed(TokenKind::Open)),
                 Symbol::Rule(Part::Column),
-                Symbol::Read(Role::Fixed(Kind::Close)),
-                Symbol::Emit(Mark::Sum),
+                Symbol::Read(Role::Fixed(TokenKind::Close)),
+                Symbol::Emit(Mark::Of(Aggregate::Sum)),
             ],
             &[
-                Symbol::Read(Role::Fixed(Kind::Min)),
-                Symbol::Read(Role::Fixed(Kind::Open)),
+                Symbol::Read(Role::Fixed(TokenKind::Min)),
+                Symbol::Read(Role::Fixed(TokenKind::Open)),
                 Symbol::Rule(Part::Column),
-                Symbol::Read(Role::Fixed(Kind::Close)),
-                Symbol::Emit(Mark::Min),
+                Symbol::Read(Role::Fixed(TokenKind::Close)),
+                Symbol::Emit(Mark::Of(Aggregate::Min)),
             ],
             &[
-                Symbol::Read(Role::Fixed(Kind::Max)),
-                Symbol::Read(Role::Fixed(Kind::Open)),
+                Symbol::Read(Role::Fixed(TokenKind::Max)),
+                Symbol::Read(Role::Fixed(TokenKind::Open)),
                 Symbol::Rule(Part::Column),
-                Symbol::Read(Role::Fixed(Kind::Close)),
-                Symbol::Emit(Mark::Max),
+                Symbol::Read(Role::Fixed(TokenKind::Close)),
+                Symbol::Emit(Mark::Of(Aggregate::Max)),
             ],
         ],
         Part::Counted => &[
             &[
-                Symbol::Read(Role::Fixed(Kind::Star)),
+                Symbol::Read(Role::Fixed(TokenKind::Star)),
                 Symbol::Emit(Mark::CountAll),
             ],
-            &[Symbol::Rule(Part::Column), Symbol::Emit(Mark::Count)],
+            &[
+                Symbol::Rule(Part::Column),
+                Symbol::Emit(Mark::Of(Aggregate::Count)),
+            ],
         ],
         Part::OptAs => &[
             &[
-                Symbol::Read(Role::Fixed(Kind::As)),
-                Symbol::Read(Role::Fixed(Kind::Name)),
+                Symbol::Read(Role::Fixed(TokenKind::As)),
+                Symbol::Read(Role::Fixed(TokenKind::Name)),
             ],
             &[],
         ],
         Part::Column => &[&[Symbol::Read(Role::Column), Symbol::Rule(Part::ColumnTail)]],
         Part::ColumnTail => &[
             &[
-                Symbol::Read(Role::Fixed(Kind::Dot)),
+                Symbol::Read(Role::Fixed(TokenKind::Dot)),
                 Symbol::Read(Role::Qualified),
             ],
             &[],
         ],
         Part::Rest => &[&[
-            Symbol::Read(Role::Fixed(Kind::From)),
+            Symbol::Read(Role::Fixed(TokenKind::From)),
             Symbol::Rule(Part::Source),
             Symbol::Rule(Part::OptSource),
             Symbol::Rule(Part::OptWhere),
@@ -114,7 +117,7 @@ pub fn alternatives_of(part: Part) -> &'static [&'static [Symbol]]
         ]],
         Part::OptSource => &[
             &[
-                Symbol::Read(Role::Fixed(Kind::Comma)),
+                Symbol::Read(Role::Fixed(TokenKind::Comma)),
                 Symbol::Rule(Part::Source),
                 Symbol::Rule(Part::OptThird),
             ],
@@ -122,7 +125,7 @@ pub fn alternatives_of(part: Part) -> &'static [&'static [Symbol]]
         ],
         Part::OptThird => &[
             &[
-                Symbol::Read(Role::Fixed(Kind::Comma)),
+                Symbol::Read(Role::Fixed(TokenKind::Comma)),
                 Symbol::Rule(Part::Source),
                 Symbol::Rule(Part::OptFourth),
             ],
@@ -130,7 +133,7 @@ pub fn alternatives_of(part: Part) -> &'static [&'static [Symbol]]
         ],
         Part::OptFourth => &[
             &[
-                Symbol::Read(Role::Fixed(Kind::Comma)),
+                Symbol::Read(Role::Fixed(TokenKind::Comma)),
                 Symbol::Rule(Part::Source),
             ],
             &[],
@@ -148,32 +151,32 @@ pub fn alternatives_of(part: Part) -> &'static [&'static [Symbol]]
         Part::OptAlias => &[&[Symbol::Rule(Part::Alias)], &[]],
         Part::Alias => &[
             &[
-                Symbol::Read(Role::Fixed(Kind::As)),
+                Symbol::Read(Role::Fixed(TokenKind::As)),
                 Symbol::Read(Role::Alias),
             ],
             &[Symbol::Read(Role::Alias)],
         ],
         Part::OptWindow => &[&[Symbol::Rule(Part::Window)], &[]],
         Part::Window => &[&[
-            Symbol::Read(Role::Fixed(Kind::Left)),
+            Symbol::Read(Role::Fixed(TokenKind::Left)),
             Symbol::Rule(Part::Frame),
-            Symbol::Read(Role::Fixed(Kind::Right)),
+            Symbol::Read(Role::Fixed(TokenKind::Right)),
         ]],
         Part::Frame => &[
             &[Symbol::Read(Role::Now)],
             &[
-                Symbol::Read(Role::Fixed(Kind::Range)),
+                Symbol::Read(Role::Fixed(TokenKind::Range)),
                 Symbol::Rule(Part::Span),
             ],
             &[
-                Symbol::Read(Role::Fixed(Kind::Rows)),
+                Symbol::Read(Role::Fixed(TokenKind::Rows)),
                 Symbol::Rule(Part::Last),
             ],
             &[
-                Symbol::Read(Role::Fixed(Kind::Partition)),
-                Symbol::Read(Role::Fixed(Kind::By)),
+                Symbol::Read(Role::Fixed(TokenKind::Partition)),
+                Symbol::Read(Role::Fixed(TokenKind::By)),
                 Symbol::Rule(Part::Columns),
-                Symbol::Read(Role::Fixed(Kind::Rows)),
+                Symbol::Read(Role::Fixed(TokenKind::Rows)),
                 Symbol::Read(Role::Partition),
             ],
         ],
@@ -183,7 +186,7 @@ pub fn alternatives_of(part: Part) -> &'static [&'static [Symbol]]
         ],
         Part::OptSlide => &[
             &[
-                Symbol::Read(Role::Fixed(Kind::Slide)),
+                Symbol::Read(Role::Fixed(TokenKind::Slide)),
                 Symbol::Read(Role::Slide),
             ],
             &[],
@@ -199,7 +202,7 @@ pub fn alternatives_of(part: Part) -> &'static [&'static [Symbol]]
         ]],
         Part::ColumnsTail => &[
             &[
-                Symbol::Read(Role::Fixed(Kind::Comma)),
+                Symbol::Read(Role::Fixed(TokenKind::Comma)),
                 Symbol::Rule(Part::Column),
                 Symbol::Emit(Mark::Listed),
                 Symbol::Rule(Part::ColumnsTail),
@@ -208,7 +211,7 @@ pub fn alternatives_of(part: Part) -> &'static [&'static [Symbol]]
         ],
         Part::OptWhere => &[
             &[
-                Symbol::Read(Role::Fixed(Kind::Where)),
+                Symbol::Read(Role::Fixed(TokenKind::Where)),
                 Symbol::Rule(Part::Or),
             ],
             &[],
@@ -216,7 +219,7 @@ pub fn alternatives_of(part: Part) -> &'static [&'static [Symbol]]
         Part::Or => &[&[Symbol::Rule(Part::And), Symbol::Rule(Part::OrTail)]],
         Part::OrTail => &[
             &[
-                Symbol::Read(Role::Fixed(Kind::Or)),
+                Symbol::Read(Role::Fixed(TokenKind::Or)),
                 Symbol::Rule(Part::And),
                 Symbol::Emit(Mark::Disjoin),
                 Symbol::Rule(Part::OrTail),
@@ -226,7 +229,7 @@ pub fn alternatives_of(part: Part) -> &'static [&'static [Symbol]]
         Part::And => &[&[Symbol::Rule(Part::Not), Symbol::Rule(Part::AndTail)]],
         Part::AndTail => &[
             &[
-                Symbol::Read(Role::Fixed(Kind::And)),
+                Symbol::Read(Role::Fixed(TokenKind::And)),
                 Symbol::Rule(Part::Not),
                 Symbol::Emit(Mark::Conjoin),
                 Symbol::Rule(Part::AndTail),
@@ -235,15 +238,15 @@ pub fn alternatives_of(part: Part) -> &'static [&'static [Symbol]]
         ],
         Part::Not => &[
             &[
-                Symbol::Read(Role::Deeper(Kind::Not)),
+                Symbol::Read(Role::Deeper(TokenKind::Not)),
                 Symbol::Rule(Part::Not),
                 Symbol::Emit(Mark::Negate),
                 Symbol::Emit(Mark::Leave),
             ],
             &[
-                Symbol::Read(Role::Deeper(Kind::Open)),
+                Symbol::Read(Role::Deeper(TokenKind::Open)),
                 Symbol::Rule(Part::Or),
-                Symbol::Read(Role::Fixed(Kind::Close)),
+                Symbol::Read(Role::Fixed(TokenKind::Close)),
                 Symbol::Emit(Mark::Leave),
             ],
             &[
@@ -267,83 +270,125 @@ pub fn alternatives_of(part: Part) -> &'static [&'static [Symbol]]
         ],
         Part::OptGroup => &[
             &[
-                Symbol::Read(Role::Fixed(Kind::Group)),
-                Symbol::Read(Role::Fixed(Kind::By)),
+                Symbol::Read(Role::Fixed(TokenKind::Group)),
+                Symbol::Read(Role::Fixed(TokenKind::By)),
                 Symbol::Rule(Part::Columns),
                 Symbol::Emit(Mark::Grouped),
             ],
             &[],
         ],
-        Part::End => &[&[Symbol::Read(Role::Fixed(Kind::Semicolon))], &[]],
+        Part::End => &[&[Symbol::Read(Role::Fixed(TokenKind::Semicolon))], &[]],
     }
 }
 
 /// Returns the kinds that a part can start with.
 #[tactic(auto, unfolding(crate::specs::Prediction::first))]
-pub fn first_of(part: Part) -> &'static [Kind]
+pub fn first_of(part: Part) -> &'static [TokenKind]
     ensures { result.now ≡ first part }
 {
     match part {
-        Part::Query => &[Kind::Select, Kind::Istream, Kind::Dstream, Kind::Rstream],
-        Part::Form => &[Kind::Select, Kind::Istream, Kind::Dstream, Kind::Rstream],
-        Part::Op => &[Kind::Istream, Kind::Dstream, Kind::Rstream],
+        Part::Query => &[
+            TokenKind::Select,
+            TokenKind::Istream,
+            TokenKind::Dstream,
+            TokenKind::Rstream,
+        ],
+        Part::Form => &[
+            TokenKind::Select,
+            TokenKind::Istream,
+            TokenKind::Dstream,
+            TokenKind::Rstream,
+        ],
+        Part::Op => &[TokenKind::Istream, TokenKind::Dstream, TokenKind::Rstream],
         Part::Body => &[
-            Kind::Distinct,
-            Kind::Count,
-            Kind::Sum,
-            Kind::Min,
-            Kind::Max,
-            Kind::Name,
-            Kind::Star,
+            TokenKind::Distinct,
+            TokenKind::Count,
+            TokenKind::Sum,
+            TokenKind::Min,
+            TokenKind::Max,
+            TokenKind::Name,
+            TokenKind::Star,
         ],
-        Part::OptDistinct => &[Kind::Distinct],
+        Part::OptDistinct => &[TokenKind::Distinct],
         Part::List => &[
-            Kind::Count,
-            Kind::Sum,
-            Kind::Min,
-            Kind::Max,
-            Kind::Name,
-            Kind::Star,
+            TokenKind::Count,
+            TokenKind::Sum,
+            TokenKind::Min,
+            TokenKind::Max,
+            TokenKind::Name,
+            TokenKind::Star,
         ],
-        Part::ItemTail => &[Kind::Comma],
-        Part::Item => &[Kind::Count, Kind::Sum, Kind::Min, Kind::Max, Kind::Name],
-        Part::Value => &[Kind::Count, Kind::Sum, Kind::Min, Kind::Max, Kind::Name],
-        Part::Counted => &[Kind::Name, Kind::Star],
-        Part::OptAs => &[Kind::As],
-        Part::Column => &[Kind::Name],
-        Part::ColumnTail => &[Kind::Dot],
-        Part::Rest => &[Kind::From],
-        Part::OptSource => &[Kind::Comma],
-        Part::OptThird => &[Kind::Comma],
-        Part::OptFourth => &[Kind::Comma],
-        Part::Source => &[Kind::Name],
-        Part::SourceTail => &[Kind::As, Kind::Name, Kind::Left],
-        Part::OptAlias => &[Kind::As, Kind::Name],
-        Part::Alias => &[Kind::As, Kind::Name],
-        Part::OptWindow => &[Kind::Left],
-        Part::Window => &[Kind::Left],
-        Part::Frame => &[Kind::Range, Kind::Rows, Kind::Partition, Kind::Now],
-        Part::Span => &[Kind::Unbounded, Kind::Number],
-        Part::OptSlide => &[Kind::Slide],
-        Part::Last => &[Kind::Unbounded, Kind::Number],
-        Part::Columns => &[Kind::Name],
-        Part::ColumnsTail => &[Kind::Comma],
-        Part::OptWhere => &[Kind::Where],
-        Part::Or => &[Kind::Not, Kind::Name, Kind::Number, Kind::Open],
-        Part::OrTail => &[Kind::Or],
-        Part::And => &[Kind::Not, Kind::Name, Kind::Number, Kind::Open],
-        Part::AndTail => &[Kind::And],
-        Part::Not => &[Kind::Not, Kind::Name, Kind::Number, Kind::Open],
-        Part::Operand => &[Kind::Name, Kind::Number],
+        Part::ItemTail => &[TokenKind::Comma],
+        Part::Item => &[
+            TokenKind::Count,
+            TokenKind::Sum,
+            TokenKind::Min,
+            TokenKind::Max,
+            TokenKind::Name,
+        ],
+        Part::Value => &[
+            TokenKind::Count,
+            TokenKind::Sum,
+            TokenKind::Min,
+            TokenKind::Max,
+            TokenKind::Name,
+        ],
+        Part::Counted => &[TokenKind::Name, TokenKind::Star],
+        Part::OptAs => &[TokenKind::As],
+        Part::Column => &[TokenKind::Name],
+        Part::ColumnTail => &[TokenKind::Dot],
+        Part::Rest => &[TokenKind::From],
+        Part::OptSource => &[TokenKind::Comma],
+        Part::OptThird => &[TokenKind::Comma],
+        Part::OptFourth => &[TokenKind::Comma],
+        Part::Source => &[TokenKind::Name],
+        Part::SourceTail => &[TokenKind::As, TokenKind::Name, TokenKind::Left],
+        Part::OptAlias => &[TokenKind::As, TokenKind::Name],
+        Part::Alias => &[TokenKind::As, TokenKind::Name],
+        Part::OptWindow => &[TokenKind::Left],
+        Part::Window => &[TokenKind::Left],
+        Part::Frame => &[
+            TokenKind::Range,
+            TokenKind::Rows,
+            TokenKind::Partition,
+            TokenKind::Now,
+        ],
+        Part::Span => &[TokenKind::Unbounded, TokenKind::Number],
+        Part::OptSlide => &[TokenKind::Slide],
+        Part::Last => &[TokenKind::Unbounded, TokenKind::Number],
+        Part::Columns => &[TokenKind::Name],
+        Part::ColumnsTail => &[TokenKind::Comma],
+        Part::OptWhere => &[TokenKind::Where],
+        Part::Or => &[
+            TokenKind::Not,
+            TokenKind::Name,
+            TokenKind::Number,
+            TokenKind::Open,
+        ],
+        Part::OrTail => &[TokenKind::Or],
+        Part::And => &[
+            TokenKind::Not,
+            TokenKind::Name,
+            TokenKind::Number,
+            TokenKind::Open,
+        ],
+        Part::AndTail => &[TokenKind::And],
+        Part::Not => &[
+            TokenKind::Not,
+            TokenKind::Name,
+            TokenKind::Number,
+            TokenKind::Open,
+        ],
+        Part::Operand => &[TokenKind::Name, TokenKind::Number],
         Part::Compare => &[
-            Kind::Equal,
-            Kind::Unequal,
-            Kind::Less,
-            Kind::AtMost,
-            Kind::Greater,
-            Kind::AtLeast,
+            TokenKind::Equal,
+            TokenKind::Unequal,
+            TokenKind::Less,
+            TokenKind::AtMost,
+            TokenKind::Greater,
+            TokenKind::AtLeast,
         ],
-        Part::OptGroup => &[Kind::Group],
-        Part::End => &[Kind::Semicolon],
+        Part::OptGroup => &[TokenKind::Group],
+        Part::End => &[TokenKind::Semicolon],
     }
 }

@@ -2,7 +2,7 @@
 
 /// Names a kind of token.
 #[derive(Clone, Copy, PartialEq, Eq)]
-pub enum Kind {
+pub enum TokenKind {
     Select,
     Distinct,
     Istream,
@@ -50,7 +50,7 @@ pub enum Kind {
 #[derive(Clone, Copy)]
 pub struct Token {
     /// Says what the token is.
-    pub kind: Kind,
+    pub kind: TokenKind,
     /// Holds the place of its first byte in the text.
     pub from: usize,
     /// Holds the place after its last byte.

@@ -3,46 +3,46 @@
 ghost use Rattle.std.specs.Prelude.{◌≡◌, ◌≤◌, map, length};
 ghost use Rattle.cql_reader.specs.Lexis.{reserved, kind_in, word_kind, is_name as names};
 ghost use Rattle.cql_reader.specs.Lexis.{is_reserved as reserves};
-ghost use Rattle.cql_reader.specs.declared.tokens.Kind.TheVariants as kinds;
+ghost use Rattle.cql_reader.specs.declared.tokens.TokenKind.TheVariants as kinds;
 
 use crate::MAX_NAME;
 use crate::bytes::{first_of, is_one_word, letter};
-use crate::tokens::Kind;
+use crate::tokens::TokenKind;
 
 /// Returns the reserved words, each with its kind.
 #[tactic(auto, unfolding(crate::specs::Lexis::reserved))]
-fn reserved_words() -> &'static [(&'static [u8], Kind)]
+fn reserved_words() -> &'static [(&'static [u8], TokenKind)]
     ensures { map (λ entry. (entry.0.now, entry.1)) result.now ≡ reserved }
 {
     &[
-        (b"select", Kind::Select),
-        (b"distinct", Kind::Distinct),
-        (b"istream", Kind::Istream),
-        (b"dstream", Kind::Dstream),
-        (b"rstream", Kind::Rstream),
-        (b"from", Kind::From),
-        (b"as", Kind::As),
-        (b"where", Kind::Where),
-        (b"group", Kind::Group),
-        (b"by", Kind::By),
-        (b"and", Kind::And),
-        (b"or", Kind::Or),
-        (b"not", Kind::Not),
-        (b"range", Kind::Range),
-        (b"rows", Kind::Rows),
-        (b"partition", Kind::Partition),
-        (b"now", Kind::Now),
-        (b"unbounded", Kind::Unbounded),
-        (b"slide", Kind::Slide),
-        (b"count", Kind::Count),
-        (b"sum", Kind::Sum),
-        (b"min", Kind::Min),
-        (b"max", Kind::Max),
+        (b"select", TokenKind::Select),
+        (b"distinct", TokenKind::Distinct),
+        (b"istream", TokenKind::Istream),
+        (b"dstream", TokenKind::Dstream),
+        (b"rstream", TokenKind::Rstream),
+        (b"from", TokenKind::From),
+        (b"as", TokenKind::As),
+        (b"where", TokenKind::Where),
+        (b"group", TokenKind::Group),
+        (b"by", TokenKind::By),
+        (b"and", TokenKind::And),
+        (b"or", TokenKind::Or),
+        (b"not", TokenKind::Not),
+        (b"range", TokenKind::Range),
+        (b"rows", TokenKind::Rows),
+        (b"partition", TokenKind::Partition),
+        (b"now", TokenKind::Now),
+        (b"unbounded", TokenKind::Unbounded),
+        (b"slide", TokenKind::Slide),
+        (b"count", TokenKind::Count),
+        (b"sum", TokenKind::Sum),
+        (b"min", TokenKind::Min),
+        (b"max", TokenKind::Max),
     ]
 }
 
 /// Returns the kind that a list of words gives a word, in any case of letters.
-fn find(entries: &[(&'static [u8], Kind)], word: &[u8]) -> Option<Kind>
+fn find(entries: &[(&'static [u8], TokenKind)], word: &[u8]) -> Option<TokenKind>
     ensures { result ≡ kind_in (map (λ entry. (entry.0.now, entry.1)) entries.now) word.now }
 {
     for (text, kind) in entries {
@@ -61,7 +61,7 @@ fn is_reserved(word: &[u8]) -> bool
 }
 
 /// Returns the kind of a word.
-pub fn kind_of_word(word: &[u8]) -> Kind
+pub fn kind_of_word(word: &[u8]) -> TokenKind
     ensures kind { result ≡ word_kind word.now }
     ensures short { result ≡ kinds.Name → length word.now ≤ 32 }
 {
@@ -69,9 +69,9 @@ pub fn kind_of_word(word: &[u8]) -> Kind
         Some(kind) => kind,
         None => {
             if word.len() <= MAX_NAME {
-                Kind::Name
+                TokenKind::Name
             } else {
-                Kind::Word
+                TokenKind::Word
             }
         }
     }

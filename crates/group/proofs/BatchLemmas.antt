@@ -23,7 +23,7 @@ use Rattle.values.specs.Condition.{field}
 use Rattle.values.specs.Resolved.{column_of}
 use Rattle.values.specs.Row.{Row, value_at}
 use Rattle.values.specs.Value.{IsAnswerValue}
-use Rattle.values.specs.declared.resolved.Column.{Column}
+use Rattle.values.specs.declared.resolved.SourceColumn.{SourceColumn}
 use Rattle.values.specs.declared.resolved.ListItem.{ListItem}
 use Rattle.lane_kernels.specs.Lanes.{IsWithin}
 use Rattle.lane_kernels.specs.Truth.{signed_count, signed_total}
@@ -46,27 +46,27 @@ no_source : (n k : ℕ) (r : Row) → (n ≡ 0 → ⊥) → value_at (get_or (r 
 no_source zero k r h = absurd (h refl)
 no_source (suc n) k r h = refl
 
-pub other_source : (c : Column) (rs : List (Bool × Row)) → (c.source ≡ 0 → ⊥) → All (λ v. v ≡ None) (fields c rs)
+pub other_source : (c : SourceColumn) (rs : List (Bool × Row)) → (c.source ≡ 0 → ⊥) → All (λ v. v ≡ None) (fields c rs)
 other_source c rs h = All-map (λ v. v ≡ None) (λ s. field (s.1 ∷ []) (column_of c)) rs (λ k d lt. no_source c.source c.column (get_or rs k d).1 h)
 
-own_source : (c : Column) (r : Row) → c.source ≡ 0 → field (r ∷ []) (column_of c) ≡ value_at r c.column
+own_source : (c : SourceColumn) (r : Row) → c.source ≡ 0 → field (r ∷ []) (column_of c) ≡ value_at r c.column
 own_source c r e = ap (λ (n : ℕ). value_at (get_or (r ∷ []) n []) c.column) e
 
-pub past_columns : (c : Column) (rs : List (Bool × Row)) (w : ℕ) → c.source ≡ 0 → IsTable w rs → w ≤ c.column → All (λ v. v ≡ None) (fields c rs)
+pub past_columns : (c : SourceColumn) (rs : List (Bool × Row)) (w : ℕ) → c.source ≡ 0 → IsTable w rs → w ≤ c.column → All (λ v. v ≡ None) (fields c rs)
 past_columns c rs w e t h = All-map (λ v. v ≡ None) (λ s. field (s.1 ∷ []) (column_of c)) rs (λ k d lt. own_source c (get_or rs k d).1 e ∙ get_or_past (get_or rs k d).1 c.column None (omega (arith, t k d lt, h)))
 
-pub own_fields : (c : Column) (rs : List (Bool × Row)) → c.source ≡ 0 → fields c rs ≡ lane_of rs c.column
+pub own_fields : (c : SourceColumn) (rs : List (Bool × Row)) → c.source ≡ 0 → fields c rs ≡ lane_of rs c.column
 own_fields c [] e = refl
 own_fields c (s ∷ rs) e = ap₂ (λ (v : Option ℤ) (vs : List (Option ℤ)). v ∷ vs) (own_source c s.1 e) (own_fields c rs e)
 
 -- the same of the row at a place
-pub other_field : (c : Column) (r : Row) → (c.source ≡ 0 → ⊥) → field (r ∷ []) (column_of c) ≡ None
+pub other_field : (c : SourceColumn) (r : Row) → (c.source ≡ 0 → ⊥) → field (r ∷ []) (column_of c) ≡ None
 other_field c r h = no_source c.source c.column r h
 
-pub past_field : (c : Column) (rs : List (Bool × Row)) (k w : ℕ) → c.source ≡ 0 → IsTable w rs → k < length rs → w ≤ c.column → field ((row_in rs k).1 ∷ []) (column_of c) ≡ None
+pub past_field : (c : SourceColumn) (rs : List (Bool × Row)) (k w : ℕ) → c.source ≡ 0 → IsTable w rs → k < length rs → w ≤ c.column → field ((row_in rs k).1 ∷ []) (column_of c) ≡ None
 past_field c rs k w e t lt h = own_source c (row_in rs k).1 e ∙ get_or_past (row_in rs k).1 c.column None (omega (arith, t k (true, []) lt, h))
 
-pub own_field : (c : Column) (rs : List (Bool × Row)) (k : ℕ) → c.source ≡ 0 → k < length rs → get_or (lane_of rs c.column) k None ≡ field ((row_in rs k).1 ∷ []) (column_of c)
+pub own_field : (c : SourceColumn) (rs : List (Bool × Row)) (k : ℕ) → c.source ≡ 0 → k < length rs → get_or (lane_of rs c.column) k None ≡ field ((row_in rs k).1 ∷ []) (column_of c)
 own_field c rs k e lt = get_or-map (λ (r : Bool × Row). value_at r.1 c.column) rs k (true, []) None lt ∙ sym (own_source c (row_in rs k).1 e)
 
 pub nulls_in_range : (vs : List (Option ℤ)) → All (λ v. v ≡ None) vs → All IsAnswerValue vs
@@ -267,7 +267,7 @@ next_in is k s c d es = here (has_key k es) refl
 whole_key : (g : GroupBy) (s : Bool × Row) → no_columns g.by ≡ true → row_key g s ≡ held []
 whole_key g s h = here g.by h
   where
-    here : (by : List Column) → no_columns by ≡ true → held (key_in by s.1) ≡ held []
+    here : (by : List SourceColumn) → no_columns by ≡ true → held (key_in by s.1) ≡ held []
     here [] h = refl
     here (c ∷ by) h = cc
 

@@ -16,9 +16,10 @@ use Rattle.values.specs.Value.{clamp_answer}
 use Rattle.values.specs.Condition.{field}
 use Rattle.values.specs.Relation.{numbers, item_value}
 use Rattle.values.specs.Resolved.{column_of, item_of, items_of}
-use Rattle.values.specs.declared.resolved.Column.{Column}
+use Rattle.values.specs.declared.resolved.SourceColumn.{SourceColumn}
 use Rattle.values.specs.declared.resolved.ListItem.{ListItem}
-use Rattle.values.specs.declared.resolved.ListItem.TheVariants.{Key, CountAll, Count, Sum, Min, Max}
+use Rattle.values.specs.declared.resolved.ListItem.TheVariants.{Key, CountAll, Of}
+use Rattle.values.specs.declared.resolved.Aggregate.TheVariants.{Count, Sum, Min, Max}
 use Rattle.values.proofs.Order.{value_order}
 use Rattle.op_queue.specs.Signed.{weigh}
 use Rattle.group.specs.Cells.{Values, TallyState, number_of, figure, figures, sum_figure, least, greatest, key_or_null, shown_figure}
@@ -30,11 +31,11 @@ use Rattle.group.proofs.CountLemmas.{total_more}
 abbrev of_rows : List Row → List (List Row)
 of_rows xs = map (λ r. r ∷ []) xs
 
-abbrev numbers_at : Column → List Row → List ℤ
+abbrev numbers_at : SourceColumn → List Row → List ℤ
 numbers_at c xs = numbers (column_of c) (of_rows xs)
 
 -- a weight of the numbers that a column has in the rows, nulls weighing nothing
-numbers-weigh : (c : Column) (w : Option ℤ → ℕ) → w None ≡ 0 → (xs : List Row) → weigh (λ x. w (field (x ∷ []) (column_of c))) xs ≡ weigh (λ z. w (Some z)) (numbers_at c xs)
+numbers-weigh : (c : SourceColumn) (w : Option ℤ → ℕ) → w None ≡ 0 → (xs : List Row) → weigh (λ x. w (field (x ∷ []) (column_of c))) xs ≡ weigh (λ z. w (Some z)) (numbers_at c xs)
 unfolding weigh
 numbers-weigh c w n [] = refl
 numbers-weigh c w n (x ∷ xs) = here (field (x ∷ []) (column_of c)) (numbers-weigh c w n xs)
@@ -271,22 +272,22 @@ greatest_is (e ∷ es) ns h s =
     at_most z a e = omega (arith, ints, e)
 
 -- THE VALUE OF AN ITEM
-holds_times : (i : ListItem) (c : Column) → ((x : Row) → number_of i x ≡ field (x ∷ []) (column_of c)) → (es : Values) (xs : List Row) → HoldsNumbers i es xs → HoldsTimes es (numbers_at c xs)
+holds_times : (i : ListItem) (c : SourceColumn) → ((x : Row) → number_of i x ≡ field (x ∷ []) (column_of c)) → (es : Values) (xs : List Row) → HoldsNumbers i es xs → HoldsTimes es (numbers_at c xs)
 holds_times i c e es xs h v = h.counts v ∙ ap some_count (weigh-ext (λ x. copy_by v (number_of i x)) (λ x. copy_by v (field (x ∷ []) (column_of c))) (λ x. ap (copy_by v) (e x)) xs ∙ numbers-weigh c (copy_by v) refl xs)
 
 pub figure_is : (k : Row) (n : ℤ) (i : ListItem) (t : TallyState) (xs : List Row) → n ≡ pos (weigh (λ x. 1) xs) → weigh (λ x. 1) xs ≤ 2 ^ 62 → Tallies i t xs → shown_figure (figure k n i t) ≡ item_value k (of_rows xs) (item_of i)
 figure_is k n (Key j) t xs e l h = refl
 figure_is k n CountAll t xs e l h = ap (λ (z : ℤ). Some (clamp_answer z)) e ∙ ap (λ (z : ℤ). Some z) (clamp_small _ l) ∙ ap (λ (m : ℕ). Some (pos m)) (sym (length-rows xs))
-figure_is k n (Count c) t xs e l h =
+figure_is k n (Of Count c) t xs e l h =
     let m = numbers-weigh c some_by refl xs ∙ weigh-one (numbers_at c xs) in
     ap (λ (z : ℤ). Some (clamp_answer z)) h.numbers
     ∙ ap (λ (z : ℤ). Some z) (clamp_small _ (omega (arith, l, numbers_le (λ x. some_by (field (x ∷ []) (column_of c))) (λ x. some_le (field (x ∷ []) (column_of c))) xs)))
     ∙ ap (λ (m : ℕ). Some (pos m)) m
-figure_is k n (Sum c) t xs e l h = sum_shown (numbers_at c xs) t.numbers t.total
+figure_is k n (Of Sum c) t xs e l h = sum_shown (numbers_at c xs) t.numbers t.total
     (h.numbers ∙ ap pos (numbers-weigh c some_by refl xs ∙ weigh-one (numbers_at c xs)))
     (h.total ∙ ap₂ (λ (a b : ℕ). pos a -ℤ pos b) (numbers-weigh c over_by refl xs) (numbers-weigh c under_by refl xs))
-figure_is k n (Min c) t xs e l h = let v = h.values refl in least_is t.values (numbers_at c xs) (holds_times (Min c) c (λ x. refl) t.values xs v) v.sorted
-figure_is k n (Max c) t xs e l h = let v = h.values refl in greatest_is t.values (numbers_at c xs) (holds_times (Max c) c (λ x. refl) t.values xs v) v.sorted
+figure_is k n (Of Min c) t xs e l h = let v = h.values refl in least_is t.values (numbers_at c xs) (holds_times (Of Min c) c (λ x. refl) t.values xs v) v.sorted
+figure_is k n (Of Max c) t xs e l h = let v = h.values refl in greatest_is t.values (numbers_at c xs) (holds_times (Of Max c) c (λ x. refl) t.values xs v) v.sorted
 
 pub figures_are : (k : Row) (n : ℤ) (is : List ListItem) (ts : List TallyState) (xs : List Row) → n ≡ pos (weigh (λ x. 1) xs) → weigh (λ x. 1) xs ≤ 2 ^ 62 → AllTally is ts xs → map shown_figure (figures k n is ts) ≡ map (item_value k (of_rows xs)) (items_of is)
 figures_are k n [] [] xs e l h = refl

@@ -10,7 +10,7 @@ use Rattle.std.proofs.lemmas.List.{ext_get_or, length-map}
 use Rattle.std.proofs.lemmas.List.FromFn.{length-map-range_with_len, get_or-map-range_with_len}
 use Rattle.values.specs.Row.{Row, row_cmp, same_row, value_at}
 use Rattle.values.specs.Bag.{is_same}
-use Rattle.values.specs.declared.resolved.Column.{Column}
+use Rattle.values.specs.declared.resolved.SourceColumn.{SourceColumn}
 use Rattle.values.specs.declared.resolved.ListItem.{ListItem}
 use Rattle.op_queue.specs.Signed.{weigh, Same, Adds, Legal, Turns}
 use Rattle.op_queue.proofs.SignedLemmas.{weigh-append, Same-refl, Same-sym, Same-trans, Same-from_none, Adds-rest, Legal-front, Legal-rest, Turns-none, Turns-append, Turns-same}
@@ -47,7 +47,7 @@ flat_map-ext : (f h : Row → List Row) → ((k : Row) → f k ≡ h k) → (ks 
 flat_map-ext f h e [] = refl
 flat_map-ext f h e (k ∷ ks) = ap₂ (λ x y. x ++ y) (e k) (flat_map-ext f h e ks)
 
-no_key : (by : List Column) (r : Row) → no_columns by ≡ true → key_in by r ≡ []
+no_key : (by : List SourceColumn) (r : Row) → no_columns by ≡ true → key_in by r ≡ []
 no_key [] r h = refl
 no_key (c ∷ by) r h = cc
 
@@ -96,7 +96,7 @@ positive_test : (n : ℕ) → is_lt (int_cmp (pos 0) (pos n)) ≡ nat_lt 0 n
 positive_test zero = ap is_lt (sym (int_cmp_is (pos 0) (pos 0) Equal refl))
 positive_test (suc n) = ap is_lt (sym (int_cmp_is (pos 0) (pos (suc n)) Less (omega (arith, ints)))) ∙ sym (lt-ltb 0 (suc n) (omega arith))
 
-has_is : (by : List Column) (k : Row) (rows : ℤ) (xs : List Row) → rows ≡ pos (weigh (λ x. 1) xs) → (no_columns by ≡ true → k ≡ []) → (no_columns by || is_lt (int_cmp (pos 0) rows)) ≡ has_group by k xs
+has_is : (by : List SourceColumn) (k : Row) (rows : ℤ) (xs : List Row) → rows ≡ pos (weigh (λ x. 1) xs) → (no_columns by ≡ true → k ≡ []) → (no_columns by || is_lt (int_cmp (pos 0) rows)) ≡ has_group by k xs
 has_is [] k rows xs e w = sym (subst (λ j. is_same row_cmp j [] ≡ true) (sym (w refl)) (row_itself []))
 has_is (c ∷ by) k rows xs e w = ap (λ (z : ℤ). is_lt (int_cmp (pos 0) z)) e ∙ positive_test (weigh (λ x. 1) xs)
 
@@ -240,7 +240,7 @@ nothing [] h = refl
 nothing (x ∷ xs) h = absurd (omega (arith, h))
 
 -- a group that shows nothing has no rows
-no_rows : (by : List Column) (k : Row) (rows : ℤ) (xs : List Row) → rows ≡ pos (weigh (λ x. 1) xs) → (no_columns by || is_lt (int_cmp (pos 0) rows)) ≡ false → xs ≡ []
+no_rows : (by : List SourceColumn) (k : Row) (rows : ℤ) (xs : List Row) → rows ≡ pos (weigh (λ x. 1) xs) → (no_columns by || is_lt (int_cmp (pos 0) rows)) ≡ false → xs ≡ []
 no_rows [] k rows xs e f = cc
 no_rows (c ∷ by) k rows xs e f = nothing xs (omega (arith, ltb-false 0 (weigh (λ x. 1) xs) (sym (positive_test (weigh (λ x. 1) xs)) ∙ sym (ap (λ (z : ℤ). is_lt (int_cmp (pos 0) z)) e) ∙ f)))
 
@@ -325,7 +325,7 @@ first_some true k l = here (is_same row_cmp k []) refl l
     here true e l = row_is k [] e
     here false e l = absurd (omega (arith, l))
 
-first_quiet : (by : List Column) (k : Row) → count k (rows_of (first_by (no_columns by))) ≡ 0 → has_group by k [] ≡ false
+first_quiet : (by : List SourceColumn) (k : Row) → count k (rows_of (first_by (no_columns by))) ≡ 0 → has_group by k [] ≡ false
 unfolding weigh
 first_quiet [] k z = here (is_same row_cmp k []) z
   where

@@ -2,7 +2,7 @@
 use Rattle.std.proofs.Common.{◌≡◌, ℕ, ℤ, zero, suc, ◌<◌, ◌≤◌, map, List, [], ◌∷◌, ◌++◌, take, length, get_or, refl, ap, arith, slice_set, Bool, true, false, not, None, sym, ◌+◌, ◌∙◌, ap₂, append-nil, length-append, replicate, nat_lt, ltb-true, ltb-false, subst, min}
 use Rattle.values.specs.Row.{Row}
 use Rattle.values.specs.declared.resolved.ListItem.{ListItem}
-use Rattle.values.specs.declared.resolved.ListItem.TheVariants.{Key, CountAll, Count, Sum, Min, Max}
+use Rattle.values.specs.declared.resolved.ListItem.TheVariants.{Key, CountAll, Of}
 use Rattle.values.specs.Value.{IsAnswerValue}
 use Rattle.std.specs.List.{list_any}
 use Rattle.std.proofs.lemmas.List.Folds.{list_any_at}
@@ -92,18 +92,12 @@ length-padded more ts = omega (arith, ap (λ (us : List TallyState). length us) 
 no_number : (i : ListItem) (r : Row) → reads i ≡ false → number_of i r ≡ None
 no_number (Key k) r e = refl
 no_number CountAll r e = refl
-no_number (Count c) r e = cc
-no_number (Sum c) r e = cc
-no_number (Min c) r e = cc
-no_number (Max c) r e = cc
+no_number (Of a c) r e = cc
 
 still : (s : Bool × Row) (i : ListItem) (t : TallyState) → reads i ≡ false → tally_after s i t ≡ t
 still s (Key k) t e = refl
 still s CountAll t e = refl
-still s (Count c) t e = cc
-still s (Sum c) t e = cc
-still s (Min c) t e = cc
-still s (Max c) t e = cc
+still s (Of a c) t e = cc
 
 not_both : (b : Bool) → (b ≡ true → ⊥) → b ≡ false
 not_both true h = absurd (h refl)

@@ -7,7 +7,7 @@ use Rattle.values.specs.Perm.{Perm}
 use Rattle.values.specs.Condition.{field}
 use Rattle.values.specs.Relation.{ListItem as PlainItem, item_value, key_of, keys_of as keys_in}
 use Rattle.values.specs.Resolved.{column_of, columns_of, items_of}
-use Rattle.values.specs.declared.resolved.Column.{Column}
+use Rattle.values.specs.declared.resolved.SourceColumn.{SourceColumn}
 use Rattle.values.proofs.Worlds.{same-item_value}
 use Rattle.values.proofs.Perms.{perm-map, capped}
 use Rattle.op_queue.specs.Signed.{weigh, Same}
@@ -16,7 +16,7 @@ use Rattle.group.specs.Laws.{count, members, keys_at, row_at, is_key, row_of}
 use Rattle.group.proofs.BagLemmas.{perm-of_counts, distinct_once, any_count, count_any, count-distinct, row_itself}
 
 -- KEYS
-pub key-alone : (by : List Column) (r : Row) → key_of (columns_of by) (r ∷ []) ≡ key_in by r
+pub key-alone : (by : List SourceColumn) (r : Row) → key_of (columns_of by) (r ∷ []) ≡ key_in by r
 key-alone [] r = refl
 key-alone (c ∷ by) r = ap (λ (k : Row). field (r ∷ []) (column_of c) ∷ k) (key-alone by r)
 
@@ -43,7 +43,7 @@ count-keys g k (r ∷ b) =
     here false i = omega (arith, i)
 
 -- whether there is the group of a key, from its rows
-abbrev pub has_group : List Column → Row → List Row → Bool
+abbrev pub has_group : List SourceColumn → Row → List Row → Bool
 has_group [] k xs = is_same row_cmp k []
 has_group (c ∷ by) k xs = nat_lt 0 (weigh (λ x. 1) xs)
 
@@ -63,11 +63,11 @@ any_there k xs = here (list_any (is_same row_cmp k) (distinct row_cmp xs)) refl 
 is_key-members : (g : GroupBy) (k : Row) (b : List Row) → is_key g b k ≡ has_group g.by k (members g k b)
 is_key-members g k b = here g.by refl
   where
-    here : (by : List Column) → g.by ≡ by → list_any (is_same row_cmp k) (keys_in (columns_of by) (map (λ r. r ∷ []) b)) ≡ has_group by k (members g k b)
+    here : (by : List SourceColumn) → g.by ≡ by → list_any (is_same row_cmp k) (keys_in (columns_of by) (map (λ r. r ∷ []) b)) ≡ has_group by k (members g k b)
     here [] e = or_false (is_same row_cmp k [])
     here (c ∷ by) e =
         any_there k (map (key_of (columns_of (c ∷ by))) (map (λ r. r ∷ []) b))
-        ∙ ap (nat_lt 0) (ap (λ (cs : List Column). count k (map (key_of (columns_of cs)) (map (λ r. r ∷ []) b))) (sym e) ∙ count-keys g k b)
+        ∙ ap (nat_lt 0) (ap (λ (cs : List SourceColumn). count k (map (key_of (columns_of cs)) (map (λ r. r ∷ []) b))) (sym e) ∙ count-keys g k b)
 
 -- ROWS
 -- the row of a group with the rows xs
@@ -88,7 +88,7 @@ same_values : (k : Row) (xs ys : List (List Row)) → Perm xs ys → (is : List 
 same_values k xs ys p [] = refl
 same_values k xs ys p (i ∷ is) = ap₂ (λ (v : Option ℤ) (vs : Row). v ∷ vs) (same-item_value k xs ys p i) (same_values k xs ys p is)
 
-has_same : (by : List Column) (k : Row) (xs ys : List Row) → Same xs ys → has_group by k xs ≡ has_group by k ys
+has_same : (by : List SourceColumn) (k : Row) (xs ys : List Row) → Same xs ys → has_group by k xs ≡ has_group by k ys
 has_same [] k xs ys s = refl
 has_same (c ∷ by) k xs ys s = ap (nat_lt 0) (s.weighs (λ x. 1))
 
@@ -111,7 +111,7 @@ keys_once g b k = here g.by
     one true = omega arith
     one false = omega arith
 
-    here : (by : List Column) → count k (keys_in (columns_of by) (map (λ r. r ∷ []) b)) ≤ 1
+    here : (by : List SourceColumn) → count k (keys_in (columns_of by) (map (λ r. r ∷ []) b)) ≤ 1
     here [] = one (is_same row_cmp k [])
     here (c ∷ by) = distinct_once k (map (key_of (columns_of (c ∷ by))) (map (λ r. r ∷ []) b))
 

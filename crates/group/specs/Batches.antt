@@ -5,7 +5,7 @@ use Rattle.values.specs.Row.{Row}
 use Rattle.values.specs.Value.{IsAnswerValue}
 use Rattle.values.specs.Condition.{field}
 use Rattle.values.specs.Resolved.{column_of}
-use Rattle.values.specs.declared.resolved.Column.{Column}
+use Rattle.values.specs.declared.resolved.SourceColumn.{SourceColumn}
 use Rattle.values.specs.declared.resolved.ListItem.{ListItem}
 use Rattle.values.specs.declared.resolved.ListItem.TheVariants.{Key}
 use Rattle.lane_kernels.specs.Truth.{signed_count, signed_total}
@@ -27,7 +27,7 @@ abbrev pub leaving : List (Bool × Row) → List Bool
 leaving rs = map (λ s. not s.0) rs
 
 -- the values of the rows in a column
-abbrev pub fields : Column → List (Bool × Row) → List (Option ℤ)
+abbrev pub fields : SourceColumn → List (Bool × Row) → List (Option ℤ)
 fields c rs = map (λ s. field (s.1 ∷ []) (column_of c)) rs
 
 -- the numbers that an item reads in the rows

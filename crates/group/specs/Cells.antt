@@ -13,8 +13,10 @@ use Rattle.values.specs.Row.{Row, row_cmp, value_cmp, value_at}
 use Rattle.values.specs.Value.{clamp_answer, IsAnswerValue}
 use Rattle.values.specs.Condition.{field}
 use Rattle.values.specs.Resolved.{column_of}
+use Rattle.values.specs.declared.resolved.Aggregate.{Aggregate}
+use Rattle.values.specs.declared.resolved.Aggregate.TheVariants.{Count, Sum, Min, Max}
 use Rattle.values.specs.declared.resolved.ListItem.{ListItem}
-use Rattle.values.specs.declared.resolved.ListItem.TheVariants.{Key, CountAll, Count, Sum, Min, Max}
+use Rattle.values.specs.declared.resolved.ListItem.TheVariants.{Key, CountAll, Of}
 use Rattle.group.specs.declared.cells.Figure.{Figure}
 use Rattle.lane_kernels.specs.Lanes.{IsWithin}
 
@@ -62,28 +64,26 @@ keeping t vs = record { numbers = t.numbers; total = t.total; values = vs }
 abbrev pub number_of : ListItem → Row → Option ℤ
 number_of (Key k) r = None
 number_of CountAll r = None
-number_of (Count c) r = field (r ∷ []) (column_of c)
-number_of (Sum c) r = field (r ∷ []) (column_of c)
-number_of (Min c) r = field (r ∷ []) (column_of c)
-number_of (Max c) r = field (r ∷ []) (column_of c)
+number_of (Of a c) r = field (r ∷ []) (column_of c)
 
 -- whether an item reads numbers at all
 abbrev pub reads : ListItem → Bool
 reads (Key k) = false
 reads CountAll = false
-reads (Count c) = true
-reads (Sum c) = true
-reads (Min c) = true
-reads (Max c) = true
+reads (Of a c) = true
 
--- whether each of them is kept
+-- whether an aggregate needs each number kept: the least or greatest may leave
+abbrev pub keeps_each : Aggregate → Bool
+keeps_each Count = false
+keeps_each Sum = false
+keeps_each Min = true
+keeps_each Max = true
+
+-- whether each number that an item reads is kept
 abbrev pub keeps : ListItem → Bool
 keeps (Key k) = false
 keeps CountAll = false
-keeps (Count c) = false
-keeps (Sum c) = false
-keeps (Min c) = true
-keeps (Max c) = true
+keeps (Of a c) = keeps_each a
 
 -- what enters counts plus, what leaves minus
 abbrev pub signed_by : Bool → ℤ → ℤ
@@ -163,13 +163,17 @@ least es = key_or_null (slice_get es 0)
 abbrev pub greatest : Values → Option ℤ
 greatest es = key_or_null (slice_get es (length es - 1))
 
+-- the figure of an aggregate of the numbers of a tally
+abbrev pub aggregate_figure : Aggregate → TallyState → Figure
+aggregate_figure Count t = number_figure t.numbers
+aggregate_figure Sum t = sum_figure t.numbers t.total
+aggregate_figure Min t = value_figure (least t.values)
+aggregate_figure Max t = value_figure (greatest t.values)
+
 abbrev pub figure : Row → ℤ → ListItem → TallyState → Figure
 figure key rows (Key k) t = value_figure (value_at key k)
 figure key rows CountAll t = number_figure rows
-figure key rows (Count c) t = number_figure t.numbers
-figure key rows (Sum c) t = sum_figure t.numbers t.total
-figure key rows (Min c) t = value_figure (least t.values)
-figure key rows (Max c) t = value_figure (greatest t.values)
+figure key rows (Of a c) t = aggregate_figure a t
 
 abbrev pub figures : Row → ℤ → List ListItem → List TallyState → List Figure
 figures key rows [] ts = []

@@ -8,7 +8,7 @@ use Rattle.std.specs.BTreeMap.{is_at, insert_entry}
 use Rattle.std.specs.BTreeSet.{insert_key}
 use Rattle.std.specs.List.{All, range_with_len}
 use Rattle.values.specs.Row.{Row, same_row, value_at}
-use Rattle.values.specs.declared.resolved.Column.{Column}
+use Rattle.values.specs.declared.resolved.SourceColumn.{SourceColumn}
 use Rattle.values.specs.declared.resolved.ListItem.{ListItem}
 use Rattle.op_queue.specs.Entries.{Entry, RowAt, TickAt}
 use Rattle.op_queue.specs.declared.item.Item as queue
@@ -49,7 +49,7 @@ shown_in n k r es = with_cell k (showing (cell_of n k es) (Some r))
     (showing (cell_zero n) (Some r)) es
 
 -- without Group By the one group is touched from the start: it is shown at its first tick
-abbrev pub first_touched : List Column → List Held
+abbrev pub first_touched : List SourceColumn → List Held
 first_touched by = cond (no_columns by) (held [] ∷ []) []
 
 abbrev pub beginning : GroupBy → GroupState

@@ -24,7 +24,8 @@ ghost use Rattle.group.specs.Batches.{tally_rows, numbers_read, AllInRange, row_
 ghost use Rattle.std.specs.Option.{is_some, option_map};
 ghost use Rattle.values.specs.Row.{same_row};
 ghost use Rattle.values.specs.declared.TheConstants.{MAX_COLUMNS};
-ghost use Rattle.group.specs.Cells.{all_tallies, held, reads, shown_figure};
+ghost use Rattle.group.specs.Cells.{all_tallies, held, reads, shown_figure, keeps_each};
+ghost use Rattle.group.specs.Cells.{aggregate_figure};
 ghost use Rattle.group.specs.Turns.{same_shown, signed_row, swap_of};
 ghost use Rattle.group.specs.Groups.{no_columns};
 ghost use Rattle.std.specs.Prelude.{◌||◌, IfSome, IsTrue};
@@ -36,13 +37,13 @@ ghost use Rattle.group.specs.Quiet.{IsQuietCell};
 use crate::rows::{enters, field_at, value_in};
 use crate::shape::GroupBy;
 use crate::shown_row::ShownRow;
-use column::{Batch, Column as Lane};
+use column::{Batch, Column};
 use lane_kernels::{count_set, count_signed, sum_signed};
 use op_queue::SignedRows;
 use std::alloc::{AllocError, Global};
 use std::collections::BTreeMap;
 use std::marker::Model;
-use values::{Column, ListItem, Row, Value};
+use values::{Aggregate, ListItem, Row, SourceColumn, Value};
 
 /// Returns the number that an item reads in a row of a batch; null if it reads none.
 fn number_at(item: ListItem, batch: &Batch, place: usize) -> Value
@@ -52,10 +53,7 @@ fn number_at(item: ListItem, batch: &Batch, place: usize) -> Value
     match item {
         ListItem::Key(_) => Value::null(),
         ListItem::CountAll => Value::null(),
-        ListItem::Count(column) => field_at(batch, place, column),
-        ListItem::Sum(column) => field_at(batch, place, column),
-        ListItem::Min(column) => field_at(batch, place, column),
-        ListItem::Max(column) => field_at(batch, place, column),
+        ListItem::Of(_, column) => field_at(batch, place, column),
     }
 }
 
@@ -66,7 +64,7 @@ fn reads(item: ListItem) -> bool
     match item {
         ListItem::Key(_) => false,
         ListItem::CountAll => false,
-        _ => true,
+        ListItem::Of(_, _) => true,
     }
 }
 
@@ -77,15 +75,27 @@ fn reads_any(items: &[ListItem]) -> bool
     items.iter().any(|item| reads(*item))
 }
 
-/// Returns whether an item keeps each number. Min and Max do, since the least or greatest may
+/// Returns whether an aggregate keeps each number. Min and Max do, since the least or greatest may
 /// leave.
+fn keeps_each(aggregate: Aggregate) -> bool
+    ensures { result ≡ keeps_each aggregate }
+{
+    match aggregate {
+        Aggregate::Count => false,
+        Aggregate::Sum => false,
+        Aggregate::Min => true,
+        Aggregate::Max => true,
+    }
+}
+
+/// Returns whether an item keeps each number that it reads.
 fn keeps(item: ListItem) -> bool
     ensures { result ≡ keeps item }
 {
     match item {
-        ListItem::Min(_) => true,
-        ListItem::Max(_) => true,
-        _ => false,
+        ListItem::Key(_) => false,
+        ListItem::CountAll => false,
+        ListItem::Of(aggregate, _) => keeps_each(aggregate),
     }
 }
 
@@ -251,7 +261,7 @@ impl Tally {
 
     /// Lets the values of a column enter, or leave if their bit in `minus` is set. It keeps none of
     /// them: it counts and sums them by lanes.
-    fn take_sums(&mut self, lane: &Lane, minus: &[u64])
+    fn take_sums(&mut self, lane: &Column, minus: &[u64])
         requires small { All IsStreamValue lane.now }
         requires words { length minus.now ≡ word_count (length lane.now) }
         requires room { TallyRoom (2 ^ 62) self.old }
@@ -264,7 +274,7 @@ impl Tally {
 
     /// Lets the values of a column enter, or leave if their bit in `minus` is set, one after the
     /// other.
-    fn take_values(&mut self, lane: &Lane, keeps: bool, minus: &[u64]) -> Result<(), AllocError>
+    fn take_values(&mut self, lane: &Column, keeps: bool, minus: &[u64]) -> Result<(), AllocError>
         requires words { length minus.now ≡ word_count (length lane.now) }
         requires room { TallyRoom (2 ^ 62) self.old }
         ensures tally { OnOk result (self.new
@@ -278,7 +288,7 @@ impl Tally {
     }
 
     /// Lets the values of a column enter, or leave if their bit in `minus` is set.
-    fn take_lane(&mut self, lane: &Lane, keeps: bool, minus: &[u64]) -> Result<(), AllocError>
+    fn take_lane(&mut self, lane: &Column, keeps: bool, minus: &[u64]) -> Result<(), AllocError>
         requires words { length minus.now ≡ word_count (length lane.now) }
         requires room { TallyRoom (2 ^ 62) self.old }
         ensures tally { OnOk result (self.new
@@ -298,7 +308,12 @@ impl Tally {
     }
 
     /// Takes in the values that the rows of a batch have in a column, each with its row's sign.
-    fn take_fields(&mut self, column: Column, keeps: bool, batch: &Batch) -> Result<(), AllocError>
+    fn take_fields(
+        &mut self,
+        column: SourceColumn,
+        keeps: bool,
+        batch: &Batch,
+    ) -> Result<(), AllocError>
         requires { TallyRoom (2 ^ 62) self.old }
         ensures tally { OnOk result (self.new
             ≡ tally_values keeps (leaving batch.now) (fields column batch.now) self.old) }
@@ -324,10 +339,21 @@ impl Tally {
         match item {
             ListItem::Key(_) => Ok(()),
             ListItem::CountAll => Ok(()),
-            ListItem::Count(column) => self.take_fields(column, false, batch),
-            ListItem::Sum(column) => self.take_fields(column, false, batch),
-            ListItem::Min(column) => self.take_fields(column, true, batch),
-            ListItem::Max(column) => self.take_fields(column, true, batch),
+            ListItem::Of(aggregate, column) => {
+                self.take_fields(column, keeps_each(aggregate), batch)
+            }
+        }
+    }
+
+    /// Returns the exact figure of an aggregate of the numbers.
+    fn aggregate_figure(&self, aggregate: Aggregate) -> Figure
+        ensures { result ≡ aggregate_figure aggregate self.now }
+    {
+        match aggregate {
+            Aggregate::Count => number_figure(self.numbers as i128),
+            Aggregate::Sum => sum_figure(self.numbers, self.total),
+            Aggregate::Min => value_figure(least(&self.values)),
+            Aggregate::Max => value_figure(greatest(&self.values)),
         }
     }
 
@@ -338,10 +364,7 @@ impl Tally {
         match item {
             ListItem::Key(column) => value_figure(value_in(key, column)),
             ListItem::CountAll => number_figure(rows as i128),
-            ListItem::Count(_) => number_figure(self.numbers as i128),
-            ListItem::Sum(_) => sum_figure(self.numbers, self.total),
-            ListItem::Min(_) => value_figure(least(&self.values)),
-            ListItem::Max(_) => value_figure(greatest(&self.values)),
+            ListItem::Of(aggregate, _) => self.aggregate_figure(aggregate),
         }
     }
 }
@@ -561,6 +584,18 @@ fn take_rows(
     Ok(())
 }
 
+/// Returns the exact figure of an aggregate of no numbers.
+fn empty_aggregate(aggregate: Aggregate) -> Figure
+    ensures { result ≡ aggregate_figure aggregate tally_zero }
+{
+    match aggregate {
+        Aggregate::Count => number_figure(0),
+        Aggregate::Sum => value_figure(Value::null()),
+        Aggregate::Min => value_figure(Value::null()),
+        Aggregate::Max => value_figure(Value::null()),
+    }
+}
+
 /// Returns the exact figure of an item that took no number.
 fn empty_figure(item: ListItem, key: &[Value], rows: i64) -> Figure
     ensures { result ≡ figure key.now rows item tally_zero }
@@ -568,8 +603,7 @@ fn empty_figure(item: ListItem, key: &[Value], rows: i64) -> Figure
     match item {
         ListItem::Key(column) => value_figure(value_in(key, column)),
         ListItem::CountAll => number_figure(rows as i128),
-        ListItem::Count(_) => number_figure(0),
-        _ => value_figure(Value::null()),
+        ListItem::Of(aggregate, _) => empty_aggregate(aggregate),
     }
 }
 

@@ -14,7 +14,7 @@ ghost use Rattle.group.specs.Runs.{changes_at, state_with};
 
 use crate::keyed::Keyed;
 use crate::shape::GroupBy;
-use crate::turn::Near;
+use crate::turn::GroupExcerpt;
 use column::Batch;
 use op_queue::SignedRows;
 use std::alloc::{AllocError, Global};
@@ -35,6 +35,8 @@ macro_rules! with_keyed {
 }
 
 /// Keeps the groups, with room in each key for at most 1, 2, 4, 8, 16 or `MAX_COLUMNS` values.
+/// Most groups are by one column; in room for 1 their keys are a quarter shorter than in room for
+/// 2.
 #[derive(Drop)]
 pub(crate) enum HeldCells {
     One(Keyed<1>),
@@ -208,7 +210,11 @@ impl HeldCells {
     }
 
     /// Returns what the touched groups have to show, in the order of their keys.
-    pub(crate) fn excerpts(&self, alloc: Global, items: &[ListItem]) -> Result<Near, AllocError>
+    pub(crate) fn excerpts(
+        &self,
+        alloc: Global,
+        items: &[ListItem],
+    ) -> Result<GroupExcerpt, AllocError>
         requires { length items.now ≤ MAX_COLUMNS }
         ensures { IfOk result (λ near. near
             ≡ near_at items.now (cells_in self.now) (touched_in self.now)) }

@@ -15,25 +15,25 @@ use column::Batch;
 use row_bags::{copied, fitted};
 use std::cmp::Ordering;
 use std::marker::Model;
-use values::{Column, MAX_COLUMNS, Row, Value};
+use values::{MAX_COLUMNS, Row, SourceColumn, Value};
 
 /// Holds a key of a group, of at most `N` values.
 ///
 /// Most keys differ in the first value, so that one is compared before all others.
 #[derive(Drop)]
-pub(crate) struct Key<const N: usize> {
+pub(crate) struct GroupKey<const N: usize> {
     /// Holds the first value; null if there is none.
     first: Value,
     /// Holds the values of Group By's columns, in order.
     values: ArrayVec<Value, N>,
 }
 
-impl<const N: usize> Model for Key<N> {
+impl<const N: usize> Model for GroupKey<N> {
     ghost use Rattle.std.specs.Prelude.{◌≡◌, Option, ℤ};
     ghost use Rattle.std.proofs.Common.{sym, ap};
     ghost use Rattle.values.specs.Row.{value_at};
     ghost use Rattle.group.specs.Cells.{Held};
-    ghost use Rattle.group.specs.declared.key.Key.TheInside.{Inside};
+    ghost use Rattle.group.specs.declared.key.GroupKey.TheInside.{Inside};
 
     ghost Value = { Held };
 
@@ -47,7 +47,7 @@ impl<const N: usize> Model for Key<N> {
         → Inside = λ v. record { first = v; values = a.values } in ap f (sym h) };
 }
 
-impl<const N: usize> PartialEq for Key<N> {
+impl<const N: usize> PartialEq for GroupKey<N> {
     ghost eq = { held_eq };
 
     ghost laws = { partial_equiv_from_equiv held_equiv };
@@ -57,11 +57,11 @@ impl<const N: usize> PartialEq for Key<N> {
     }
 }
 
-impl<const N: usize> Eq for Key<N> {
+impl<const N: usize> Eq for GroupKey<N> {
     ghost laws = { held_equiv };
 }
 
-impl<const N: usize> PartialOrd for Key<N> {
+impl<const N: usize> PartialOrd for GroupKey<N> {
     ghost partial_cmp = { as_partial_cmp held_cmp };
 
     ghost laws = { partial_order_from_agreeing_total held_cmp held_total (λ x y. refl) held_ties };
@@ -71,7 +71,7 @@ impl<const N: usize> PartialOrd for Key<N> {
     }
 }
 
-impl<const N: usize> Ord for Key<N> {
+impl<const N: usize> Ord for GroupKey<N> {
     ghost cmp = { held_cmp };
 
     ghost total = { held_total };
@@ -106,39 +106,39 @@ fn compare(a: &[Value], b: &[Value]) -> Ordering
     a.cmp(&b)
 }
 
-impl<const N: usize> Key<N> {
+impl<const N: usize> GroupKey<N> {
     /// Makes the key with these values.
-    fn with(values: ArrayVec<Value, N>) -> Key<N>
+    fn with(values: ArrayVec<Value, N>) -> GroupKey<N>
         ensures { result ≡ values.entry }
     {
-        Key {
+        GroupKey {
             first: value_in(values.as_slice(), 0),
             values,
         }
     }
 
     /// Makes the key with the values of a row.
-    pub(crate) fn of(row: &Row) -> Key<N>
+    pub(crate) fn of(row: &Row) -> GroupKey<N>
         requires { length row.now.items ≤ N }
         ensures { result ≡ row.now }
     {
-        Key::with(copied(row))
+        GroupKey::with(copied(row))
     }
 
     /// Makes the key with the values of a row; `None` if there are more than `N`.
-    pub(crate) fn fitted(row: &Row) -> Option<Key<N>>
+    pub(crate) fn fitted(row: &Row) -> Option<GroupKey<N>>
         requires { N ≤ MAX_COLUMNS }
         ensures some { IfSome result (λ key. (key ≡ row.now) × (length row.now.items ≤ N)) }
         ensures none { IsNone result → N < length row.now.items }
     {
         match fitted(row) {
-            Some(values) => Some(Key::with(values)),
+            Some(values) => Some(GroupKey::with(values)),
             None => None,
         }
     }
 
     /// Returns the key of the group that a row of a batch belongs to.
-    pub(crate) fn at(by: &[Column], batch: &Batch, place: usize) -> Key<N>
+    pub(crate) fn at(by: &[SourceColumn], batch: &Batch, place: usize) -> GroupKey<N>
         requires fits { length by.now ≤ N }
         requires within { place < length batch.now }
         ensures value { result ≡ held (key_in by.now (row_in batch.now place).1) }
@@ -148,16 +148,16 @@ impl<const N: usize> Key<N> {
         for column in by {
             values.push(field_at(batch, place, *column));
         }
-        Key::with(values)
+        GroupKey::with(values)
     }
 
     /// Returns the same key, in room for `M` values.
-    pub(crate) fn copied<const M: usize>(&self) -> Key<M>
+    pub(crate) fn copied<const M: usize>(&self) -> GroupKey<M>
         requires { N ≤ M }
         ensures { result ≡ self.now }
     {
         let _ = self.values.as_slice(); // for the proof
-        Key::with(copied(&self.values))
+        GroupKey::with(copied(&self.values))
     }
 
     /// Returns the key's values.

@@ -19,11 +19,11 @@ ghost use Rattle.group.specs.Runs.{changes_at, put_out, state_with, swapped};
 ghost use Rattle.group.specs.Touched.{TouchedMore};
 
 use crate::cells::{Cell, Figure};
-use crate::key::Key;
+use crate::key::GroupKey;
 use crate::shape::GroupBy;
 use crate::slots::{Slots, Taken};
 use crate::touch::Touch;
-use crate::turn::{Near, Touched};
+use crate::turn::{GroupExcerpt, Touched};
 use column::Batch;
 use op_queue::SignedRows;
 use std::alloc::{AllocError, Global};
@@ -98,7 +98,7 @@ impl<const N: usize> Keyed<N> {
             (self.new.touched ≡ insert_key held_cmp self.old.touched key.now) }
     {
         self.are_quiet = false;
-        touch(&mut self.touched, Key::of(key), 0)?;
+        touch(&mut self.touched, GroupKey::of(key), 0)?;
         Ok(())
     }
 
@@ -147,7 +147,7 @@ impl<const N: usize> Keyed<N> {
             ≡ insert_key held_cmp self.old.touched (row_key group.now (row_in batch.now place))) }
         ensures range { OnOk result (ReadsInRange group.now.items (row_in batch.now place)) }
     {
-        let key = Key::at(group.by(), batch, place);
+        let key = GroupKey::at(group.by(), batch, place);
         self.take_key(alloc, group.items(), key, batch, place, asks)?;
         Ok(())
     }
@@ -157,7 +157,7 @@ impl<const N: usize> Keyed<N> {
         &mut self,
         alloc: Global,
         items: &[ListItem],
-        key: Key<N>,
+        key: GroupKey<N>,
         batch: &Batch,
         place: usize,
         asks: bool,
@@ -204,7 +204,7 @@ impl<const N: usize> Keyed<N> {
         ensures range { OnOk result (AllInRange items.now batch.now) }
     {
         self.are_quiet = false;
-        let key = Key::of(key);
+        let key = GroupKey::of(key);
         let at = self.cells.take_batch(alloc, items, &key, batch)?;
         touch(&mut self.touched, key, at)?;
         Ok(())
@@ -224,7 +224,7 @@ impl<const N: usize> Keyed<N> {
         ensures touched { self.new.touched ≡ self.old.touched }
     {
         self.are_quiet = false;
-        let key = Key::of(key);
+        let key = GroupKey::of(key);
         self.cells.show(alloc, count, &key, row)?;
         Ok(())
     }
@@ -281,7 +281,7 @@ impl<const N: usize> Keyed<N> {
         &self,
         alloc: Global,
         items: &[ListItem],
-        key: &Key<N>,
+        key: &GroupKey<N>,
         spare: &mut Vec<Figure>,
         groups: &mut Touched,
     ) -> Result<(), AllocError>
@@ -305,7 +305,7 @@ impl<const N: usize> Keyed<N> {
         alloc: Global,
         items: &[ListItem],
         keys: &[Touch<N>],
-    ) -> Result<Near, AllocError>
+    ) -> Result<GroupExcerpt, AllocError>
         requires { length items.now ≤ MAX_COLUMNS }
         ensures { IfOk result (λ near. near ≡ near_at items.now self.now.cells keys.now) }
     {
@@ -314,11 +314,15 @@ impl<const N: usize> Keyed<N> {
         for key in keys {
             self.add_excerpt(alloc, items, key.key(), &mut spare, &mut groups)?;
         }
-        Ok(Near::new(groups))
+        Ok(GroupExcerpt::new(groups))
     }
 
     /// Returns what the touched groups have to show, in the order of their keys.
-    pub(crate) fn excerpts(&self, alloc: Global, items: &[ListItem]) -> Result<Near, AllocError>
+    pub(crate) fn excerpts(
+        &self,
+        alloc: Global,
+        items: &[ListItem],
+    ) -> Result<GroupExcerpt, AllocError>
         requires { length items.now ≤ MAX_COLUMNS }
         ensures { IfOk result (λ near. near
             ≡ near_at items.now self.now.cells self.now.touched) }
@@ -414,7 +418,7 @@ fn gather<const N: usize>(
 /// Appends the key of a group, which is at the place.
 fn touch<const N: usize>(
     touched: &mut Vec<Touch<N>>,
-    key: Key<N>,
+    key: GroupKey<N>,
     place: usize,
 ) -> Result<(), AllocError>
     ensures { OnOk result
@@ -429,7 +433,7 @@ fn touch<const N: usize>(
 fn touch_either<const N: usize>(
     touched: &mut Vec<Touch<N>>,
     quiet: &mut Vec<Touch<N>>,
-    key: Key<N>,
+    key: GroupKey<N>,
     taken: &Taken,
 ) -> Result<(), AllocError>
     ensures touched { OnOk result (in_set touched.new.items
@@ -539,7 +543,7 @@ fn swap_new<const N: usize>(
     cells: &mut Slots<N>,
     alloc: Global,
     group: &GroupBy,
-    key: &Key<N>,
+    key: &GroupKey<N>,
     spare: &mut Vec<Value>,
     rows: &mut SignedRows,
 ) -> Result<(), AllocError>
@@ -561,7 +565,7 @@ fn swap_new<const N: usize>(
 /// Appends what a touched group has to show. `spare` lends room for its figures.
 fn add_excerpt_of<const N: usize>(
     items: &[ListItem],
-    key: &Key<N>,
+    key: &GroupKey<N>,
     cell: &Cell,
     spare: &mut Vec<Figure>,
     groups: &mut Touched,

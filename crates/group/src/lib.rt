@@ -26,4 +26,4 @@ mod turn;
 pub use laws::groups_keep_their_laws;
 pub use shape::GroupBy;
 pub use state::Group;
-pub use turn::{Change, Near, work};
+pub use turn::{GroupChange, GroupExcerpt, work};

@@ -8,10 +8,10 @@ ghost use Rattle.group.specs.Batches.{row_in};
 ghost use Rattle.group.specs.Cells.{held};
 
 use column::Batch;
-use values::{Column, MAX_COLUMNS, Row, Value};
+use values::{MAX_COLUMNS, Row, SourceColumn, Value};
 
 /// Returns the value in a column of a row of a batch. The row is read as a combination of one row.
-pub(crate) fn field_at(batch: &Batch, place: usize, column: Column) -> Value
+pub(crate) fn field_at(batch: &Batch, place: usize, column: SourceColumn) -> Value
     requires { place < length batch.now }
     ensures { result ≡ field ((row_in batch.now place).1 ∷ []) (column_of column) }
 {

@@ -7,7 +7,7 @@ ghost use Rattle.group.specs.Groups.{once_each, no_columns};
 
 use std::alloc::{AllocError, Global};
 use std::marker::Model;
-use values::{Column, ListItem, MAX_COLUMNS};
+use values::{ListItem, MAX_COLUMNS, SourceColumn};
 
 /// Holds Group By's columns and the list of a grouped query. Without Group By there are no columns.
 ///
@@ -16,7 +16,7 @@ use values::{Column, ListItem, MAX_COLUMNS};
 #[derive(Drop)]
 pub struct GroupBy {
     /// Holds Group By's columns; none without Group By.
-    by: Vec<Column>,
+    by: Vec<SourceColumn>,
     /// Holds the items of the list, in order.
     items: Vec<ListItem>,
 }
@@ -36,7 +36,7 @@ impl Model for GroupBy {
 
 impl GroupBy {
     /// Groups by these columns, with this list.
-    pub fn new(by: Vec<Column>, items: Vec<ListItem>) -> GroupBy
+    pub fn new(by: Vec<SourceColumn>, items: Vec<ListItem>) -> GroupBy
         requires by { length by.items ≤ MAX_COLUMNS }
         requires items { length items.items ≤ MAX_COLUMNS }
         ensures { result ≡ record { by = by.items; items = items.items } }
@@ -56,14 +56,14 @@ impl GroupBy {
         let mut by = Vec::new(alloc);
         let mut items = Vec::new(alloc);
         for column in 0..width {
-            by.push(Column { source: 0, column })?;
+            by.push(SourceColumn { source: 0, column })?;
             items.push(ListItem::Key(column))?;
         }
         Ok(GroupBy { by, items })
     }
 
     /// Returns Group By's columns.
-    pub(crate) fn by(&self) -> &[Column]
+    pub(crate) fn by(&self) -> &[SourceColumn]
         ensures value { result.now ≡ self.now.by }
         ensures few { length result.now ≤ MAX_COLUMNS }
     {

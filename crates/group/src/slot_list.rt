@@ -10,7 +10,7 @@ ghost use Rattle.group.specs.Same.{held_eq};
 ghost use Rattle.group.specs.Slots.{cell_at, key_at, KeepsKeys, Swaps, SwapsIn, Writes};
 
 use crate::cells::Cell;
-use crate::key::Key;
+use crate::key::GroupKey;
 use crate::shape::GroupBy;
 use column::Batch;
 use op_queue::SignedRows;
@@ -19,16 +19,26 @@ use std::marker::Model;
 use std::mem;
 use values::{ListItem, MAX_COLUMNS, Row, Value};
 
+/// Is the expression with `slot` bound to the group of a place that has one.
+macro_rules! with_slot {
+    ($place:expr, $slot:ident => $body:expr) => {
+        match $place {
+            ListPlace::Taken($slot) => $body,
+            ListPlace::Free(_) => unreachable!(),
+        }
+    };
+}
+
 /// Holds a group at its place: its key, and what is kept of it.
 #[derive(Drop)]
-pub(crate) struct Slot<const N: usize> {
+pub(crate) struct GroupSlot<const N: usize> {
     /// Holds the group's key.
-    key: Key<N>,
+    key: GroupKey<N>,
     /// Holds what is kept of the group.
     cell: Cell,
 }
 
-impl<const N: usize> Model for Slot<N> {
+impl<const N: usize> Model for GroupSlot<N> {
     ghost use Rattle.group.specs.Cells.{Held, CellState as State};
 
     ghost Value = { Held × State };
@@ -36,16 +46,16 @@ impl<const N: usize> Model for Slot<N> {
     ghost view = { λ s. (s.key, s.cell) };
 }
 
-impl<const N: usize> Slot<N> {
+impl<const N: usize> GroupSlot<N> {
     /// Makes a group with this key.
-    pub(crate) fn new(key: Key<N>, cell: Cell) -> Slot<N>
+    pub(crate) fn new(key: GroupKey<N>, cell: Cell) -> GroupSlot<N>
         ensures { result ≡ (key.entry, cell) }
     {
-        Slot { key, cell }
+        GroupSlot { key, cell }
     }
 
     /// Returns whether the group has this key.
-    pub(crate) fn has_key(&self, key: &Key<N>) -> bool
+    pub(crate) fn has_key(&self, key: &GroupKey<N>) -> bool
         ensures { result ≡ held_eq self.now.0 key.now }
     {
         self.key == *key
@@ -68,22 +78,22 @@ impl<const N: usize> Slot<N> {
 
 /// Is a place of the list.
 #[derive(Drop)]
-pub(crate) enum Place<const N: usize> {
+pub(crate) enum ListPlace<const N: usize> {
     /// Holds the group at this place.
-    Taken(Slot<N>),
+    Taken(GroupSlot<N>),
     /// Says that no group is here. Names the place to try for the next group after the one that
     /// comes here.
     Free(usize),
 }
 
-impl<const N: usize> Place<N> {
+impl<const N: usize> ListPlace<N> {
     /// Returns the group here, if there is one.
-    fn slot(&self) -> Option<&Slot<N>>
+    fn slot(&self) -> Option<&GroupSlot<N>>
         ensures { option_copied result ≡ slot_of self.now }
     {
         match self {
-            Place::Taken(slot) => Some(slot),
-            Place::Free(_) => None,
+            ListPlace::Taken(slot) => Some(slot),
+            ListPlace::Free(_) => None,
         }
     }
 
@@ -92,10 +102,7 @@ impl<const N: usize> Place<N> {
         requires { IsSome (slot_of self.now) }
         ensures { result.now ≡ cell_at (slot_of self.now) }
     {
-        match self {
-            Place::Taken(slot) => slot.cell(),
-            Place::Free(_) => unreachable!(),
-        }
+        with_slot!(self, slot => slot.cell())
     }
 
     /// Lets a row of the group here enter or leave.
@@ -114,10 +121,7 @@ impl<const N: usize> Place<N> {
             ≡ cell_after items.now (cell_at (slot_of self.old)) (row_in batch.now row)) }
         ensures range { OnOk result (ReadsInRange items.now (row_in batch.now row)) }
     {
-        match self {
-            Place::Taken(slot) => slot.cell.take(alloc, items, batch, row),
-            Place::Free(_) => unreachable!(),
-        }
+        with_slot!(self, slot => slot.cell.take(alloc, items, batch, row))
     }
 
     /// Takes in a batch of rows of the group here.
@@ -134,10 +138,7 @@ impl<const N: usize> Place<N> {
             ≡ fold (cell_after items.now) (cell_at (slot_of self.old)) batch.now) }
         ensures range { OnOk result (AllInRange items.now batch.now) }
     {
-        match self {
-            Place::Taken(slot) => slot.cell.take_batch(alloc, items, batch),
-            Place::Free(_) => unreachable!(),
-        }
+        with_slot!(self, slot => slot.cell.take_batch(alloc, items, batch))
     }
 
     /// Sets the row that the group here shows.
@@ -147,10 +148,7 @@ impl<const N: usize> Place<N> {
         ensures cell { OnOk result (cell_at (slot_of self.new)
             ≡ showing (cell_at (slot_of self.old)) (Some row.now)) }
     {
-        match self {
-            Place::Taken(slot) => slot.cell.show(alloc, row),
-            Place::Free(_) => unreachable!(),
-        }
+        with_slot!(self, slot => slot.cell.show(alloc, row))
     }
 
     /// Takes a tick of the group here. Returns whether it has a row to show.
@@ -158,7 +156,7 @@ impl<const N: usize> Place<N> {
         &mut self,
         alloc: Global,
         group: &GroupBy,
-        key: &Key<N>,
+        key: &GroupKey<N>,
         spare: &mut Vec<Value>,
         rows: &mut SignedRows,
     ) -> Result<bool, AllocError>
@@ -167,10 +165,7 @@ impl<const N: usize> Place<N> {
         ensures swapped { IfOk result (λ some. SwapsIn group.now key.now
             (cell_at (slot_of self.old)) (cell_at (slot_of self.new)) rows.old rows.new some) }
     {
-        match self {
-            Place::Taken(slot) => slot.cell.swap(alloc, group, key.values(), spare, rows),
-            Place::Free(_) => unreachable!(),
-        }
+        with_slot!(self, slot => slot.cell.swap(alloc, group, key.values(), spare, rows))
     }
 }
 
@@ -179,7 +174,7 @@ impl<const N: usize> Place<N> {
 #[derive(Drop)]
 pub(crate) struct SlotList<const N: usize> {
     /// Holds the places.
-    places: Vec<Place<N>>,
+    places: Vec<ListPlace<N>>,
     /// Names the place to try for the next group that comes.
     next: usize,
 }
@@ -187,9 +182,9 @@ pub(crate) struct SlotList<const N: usize> {
 impl<const N: usize> Model for SlotList<N> {
     ghost use Rattle.std.specs.Prelude.{◌≤◌, List};
     ghost use Rattle.values.specs.declared.TheConstants.{MAX_COLUMNS};
-    ghost use Rattle.group.specs.declared.slot_list.Place.{Place};
+    ghost use Rattle.group.specs.declared.slot_list.ListPlace.{ListPlace};
 
-    ghost Value = { List (Place N) };
+    ghost Value = { List (ListPlace N) };
 
     ghost view = { λ l. l.places.items };
 
@@ -209,7 +204,7 @@ impl<const N: usize> SlotList<N> {
     }
 
     /// Returns the group at a place, if there is one.
-    pub(crate) fn slot(&self, place: usize) -> Option<&Slot<N>>
+    pub(crate) fn slot(&self, place: usize) -> Option<&GroupSlot<N>>
         ensures { option_copied result ≡ at_place self.now place }
     {
         match self.places.get(place) {
@@ -228,7 +223,7 @@ impl<const N: usize> SlotList<N> {
             return Ok(self.next);
         }
         let place = self.places.len();
-        self.places.push(Place::Free(place + 1))?;
+        self.places.push(ListPlace::Free(place + 1))?;
         self.next = place;
         Ok(place)
     }
@@ -245,30 +240,27 @@ impl<const N: usize> SlotList<N> {
     }
 
     /// Puts a group at a place.
-    pub(crate) fn put(&mut self, place: usize, slot: Slot<N>)
+    pub(crate) fn put(&mut self, place: usize, slot: GroupSlot<N>)
         requires { place < length self.old }
         ensures now { at_place self.new place ≡ Some slot.entry }
         ensures others { (q : ℕ) → q ≢ place → at_place self.new q ≡ at_place self.old q }
     {
-        let was = mem::replace(&mut self.places[place], Place::Taken(slot));
-        if let Place::Free(next) = was {
+        let was = mem::replace(&mut self.places[place], ListPlace::Taken(slot));
+        if let ListPlace::Free(next) = was {
             self.next = next;
         }
     }
 
     /// Takes the group at a place out and returns it. Takes no memory.
-    pub(crate) fn remove(&mut self, place: usize) -> Slot<N>
+    pub(crate) fn remove(&mut self, place: usize) -> GroupSlot<N>
         requires { IsSome (at_place self.old place) }
         ensures slot { at_place self.old place ≡ Some result }
         ensures gone { at_place self.new place ≡ None }
         ensures others { (q : ℕ) → q ≢ place → at_place self.new q ≡ at_place self.old q }
     {
-        let was = mem::replace(&mut self.places[place], Place::Free(self.next));
+        let was = mem::replace(&mut self.places[place], ListPlace::Free(self.next));
         self.next = place;
-        match was {
-            Place::Taken(slot) => slot,
-            Place::Free(_) => unreachable!(),
-        }
+        with_slot!(was, slot => slot)
     }
 
     /// Drops the group at a place, with what is kept of it. Takes no memory.
@@ -277,7 +269,7 @@ impl<const N: usize> SlotList<N> {
         ensures gone { at_place self.new place ≡ None }
         ensures others { (q : ℕ) → q ≢ place → at_place self.new q ≡ at_place self.old q }
     {
-        self.places[place] = Place::Free(self.next);
+        self.places[place] = ListPlace::Free(self.next);
         self.next = place;
     }
 
@@ -342,7 +334,7 @@ impl<const N: usize> SlotList<N> {
         &mut self,
         alloc: Global,
         group: &GroupBy,
-        key: &Key<N>,
+        key: &GroupKey<N>,
         place: usize,
         spare: &mut Vec<Value>,
         rows: &mut SignedRows,

@@ -25,9 +25,9 @@ ghost use Rattle.group.specs.Runs.{HasSwapped};
 ghost use Rattle.group.specs.Places.{at_place};
 
 use crate::cells::Cell;
-use crate::key::Key;
+use crate::key::GroupKey;
 use crate::shape::GroupBy;
-use crate::slot_list::{Slot, SlotList};
+use crate::slot_list::{GroupSlot, SlotList};
 use column::Batch;
 use op_queue::SignedRows;
 use std::alloc::{AllocError, Global};
@@ -49,7 +49,7 @@ pub(crate) struct Taken {
 #[derive(Drop)]
 pub(crate) struct Slots<const N: usize> {
     /// Maps each key to the place of its group.
-    places: BTreeMap<Key<N>, usize>,
+    places: BTreeMap<GroupKey<N>, usize>,
     /// Holds at each place the key of its group, and what is kept of it.
     slots: SlotList<N>,
 }
@@ -78,7 +78,7 @@ impl<const N: usize> Slots<N> {
     }
 
     /// Returns what is kept of a group, if it is there.
-    pub(crate) fn get(&self, key: &Key<N>) -> Option<&Cell>
+    pub(crate) fn get(&self, key: &GroupKey<N>) -> Option<&Cell>
         ensures { option_copied result ≡ lookup (is_at (held_cmp key.now)) self.now.entries }
     {
         match place_of(&self.places, key) {
@@ -93,7 +93,7 @@ impl<const N: usize> Slots<N> {
         &mut self,
         alloc: Global,
         items: &[ListItem],
-        key: &Key<N>,
+        key: &GroupKey<N>,
         batch: &Batch,
         row: usize,
         asks: bool,
@@ -127,7 +127,7 @@ impl<const N: usize> Slots<N> {
         &mut self,
         alloc: Global,
         items: &[ListItem],
-        key: &Key<N>,
+        key: &GroupKey<N>,
         batch: &Batch,
     ) -> Result<usize, AllocError>
         requires fits { length key.now.items ≤ N }
@@ -152,7 +152,7 @@ impl<const N: usize> Slots<N> {
         &mut self,
         alloc: Global,
         count: usize,
-        key: &Key<N>,
+        key: &GroupKey<N>,
         row: &Row,
     ) -> Result<(), AllocError>
         requires { length key.now.items ≤ N }
@@ -175,7 +175,7 @@ impl<const N: usize> Slots<N> {
         &mut self,
         alloc: Global,
         group: &GroupBy,
-        key: &Key<N>,
+        key: &GroupKey<N>,
         guess: usize,
         spare: &mut Vec<Value>,
         rows: &mut SignedRows,
@@ -195,7 +195,7 @@ impl<const N: usize> Slots<N> {
     }
 
     /// Inserts a group that is not there. Returns where it is.
-    pub(crate) fn insert(&mut self, key: &Key<N>, cell: Cell) -> Result<usize, AllocError>
+    pub(crate) fn insert(&mut self, key: &GroupKey<N>, cell: Cell) -> Result<usize, AllocError>
         requires fits { length key.now.items ≤ N }
         requires new { has_key key.now self.old.entries ≡ false }
         ensures { OnOk result
@@ -203,12 +203,12 @@ impl<const N: usize> Slots<N> {
     {
         let place = self.slots.vacant()?;
         self.places.insert(key.copied(), place)?;
-        self.slots.put(place, Slot::new(key.copied(), cell));
+        self.slots.put(place, GroupSlot::new(key.copied(), cell));
         Ok(place)
     }
 
     /// Drops the group, if it is there. Takes no memory.
-    pub(crate) fn remove(&mut self, key: &Key<N>)
+    pub(crate) fn remove(&mut self, key: &GroupKey<N>)
         ensures { self.new.entries ≡ remove_entry (is_at (held_cmp key.now)) self.old.entries }
     {
         if let Some(place) = self.places.remove(key) {
@@ -221,13 +221,13 @@ impl<const N: usize> Slots<N> {
         ensures { self.new.entries ≡ remove_entry (is_at (held_cmp key.now)) self.old.entries }
     {
         let _ = &self.places; // for the proof
-        if let Some(key) = Key::fitted(key) {
+        if let Some(key) = GroupKey::fitted(key) {
             self.remove(&key);
         }
     }
 
     /// Takes out the group with the last key.
-    pub(crate) fn pop_last(&mut self) -> Option<(Key<N>, Cell)>
+    pub(crate) fn pop_last(&mut self) -> Option<(GroupKey<N>, Cell)>
         ensures last { self.old.entries ≡ self.new.entries ++ option_to_list result }
         ensures none { IfNone result (self.old.entries ≡ []) }
     {
@@ -262,7 +262,10 @@ impl<const N: usize> Slots<N> {
 }
 
 /// Returns the place of a group, if the map has it.
-fn place_of<const N: usize>(places: &BTreeMap<Key<N>, usize>, key: &Key<N>) -> Option<usize>
+fn place_of<const N: usize>(
+    places: &BTreeMap<GroupKey<N>, usize>,
+    key: &GroupKey<N>,
+) -> Option<usize>
     ensures { result ≡ lookup (is_at (held_cmp key.now)) places.now.entries }
 {
     places.get(key).copied()
@@ -270,7 +273,12 @@ fn place_of<const N: usize>(places: &BTreeMap<Key<N>, usize>, key: &Key<N>) -> O
 
 /// Returns whether the group at the place, which has this key, is quiet; `false` unless `asks` is
 /// set.
-fn is_quiet_at<const N: usize>(slots: &SlotList<N>, place: usize, key: &Key<N>, asks: bool) -> bool
+fn is_quiet_at<const N: usize>(
+    slots: &SlotList<N>,
+    place: usize,
+    key: &GroupKey<N>,
+    asks: bool,
+) -> bool
     requires { IsSome (at_place slots.now place) }
     ensures { IsTrue result → IsQuietCell key.now (cell_at (at_place slots.now place)) }
 {
@@ -281,7 +289,7 @@ fn is_quiet_at<const N: usize>(slots: &SlotList<N>, place: usize, key: &Key<N>, 
 }
 
 /// Returns whether the group with this key is at the place.
-fn has_key_at<const N: usize>(slots: &SlotList<N>, key: &Key<N>, place: usize) -> bool
+fn has_key_at<const N: usize>(slots: &SlotList<N>, key: &GroupKey<N>, place: usize) -> bool
     requires { N ≤ MAX_COLUMNS }
     ensures { IsTrue result → key_at (at_place slots.now place) ≡ Some key.now }
 {
@@ -293,9 +301,9 @@ fn has_key_at<const N: usize>(slots: &SlotList<N>, key: &Key<N>, place: usize) -
 
 /// Returns the place of a group, if the map has it. It tries the guess, then a look-up.
 fn found<const N: usize>(
-    places: &BTreeMap<Key<N>, usize>,
+    places: &BTreeMap<GroupKey<N>, usize>,
     slots: &SlotList<N>,
-    key: &Key<N>,
+    key: &GroupKey<N>,
     guess: usize,
 ) -> Option<usize>
     requires { IsPlaced N places.now.entries (at_place slots.now) }

@@ -6,7 +6,7 @@ ghost use Rattle.std.specs.Ordering.{as_partial_cmp};
 ghost use Rattle.group.specs.Cells.{held_cmp};
 ghost use Rattle.group.specs.Same.{held_eq, held_equiv, held_ties, held_total};
 
-use crate::key::Key;
+use crate::key::GroupKey;
 use std::cmp::Ordering;
 use std::marker::Model;
 
@@ -15,7 +15,7 @@ use std::marker::Model;
 #[derive(Drop)]
 pub(crate) struct Touch<const N: usize> {
     /// Holds the group's key.
-    key: Key<N>,
+    key: GroupKey<N>,
     /// Names the place where the group was.
     place: usize,
 }
@@ -68,7 +68,7 @@ impl<const N: usize> Ord for Touch<N> {
 
 impl<const N: usize> Touch<N> {
     /// Makes a touch of the group with this key, which is at the place.
-    pub(crate) fn new(key: Key<N>, place: usize) -> Touch<N>
+    pub(crate) fn new(key: GroupKey<N>, place: usize) -> Touch<N>
         ensures { result ≡ key.entry }
     {
         Touch { key, place }
@@ -84,7 +84,7 @@ impl<const N: usize> Touch<N> {
     }
 
     /// Returns the group's key.
-    pub(crate) fn key(&self) -> &Key<N>
+    pub(crate) fn key(&self) -> &GroupKey<N>
         ensures { result.now ≡ self.now }
     {
         &self.key

@@ -99,12 +99,12 @@ impl Touched {
 
 /// Is the excerpt of a turn: each touched group if the item is a tick, else none.
 #[derive(Drop)]
-pub struct Near {
+pub struct GroupExcerpt {
     /// Holds the groups, by key.
     groups: Touched,
 }
 
-impl Model for Near {
+impl Model for GroupExcerpt {
     ghost use Rattle.std.specs.Prelude.{List};
     ghost use Rattle.group.specs.Touched.{HasTouched, groups_of};
     ghost use Rattle.group.specs.Turns.{TouchedState as State};
@@ -116,12 +116,12 @@ impl Model for Near {
     ghost invariant = { λ n. HasTouched n.groups (groups_of n.groups) };
 }
 
-impl Near {
-    pub(crate) fn new(groups: Touched) -> Near
+impl GroupExcerpt {
+    pub(crate) fn new(groups: Touched) -> GroupExcerpt
         requires { HasTouched groups (groups_of groups) }
         ensures { result ≡ groups_of groups }
     {
-        Near { groups }
+        GroupExcerpt { groups }
     }
 
     /// Returns the number of groups.
@@ -168,7 +168,7 @@ impl Near {
 
     /// Returns whether the excerpts are equal: the same groups in the same order, with the same
     /// rows shown and the same figures.
-    pub fn is_same(&self, other: &Near) -> bool
+    pub fn is_same(&self, other: &GroupExcerpt) -> bool
         ensures { IsTrue result ↔ (self.now ≡ other.now) }
     {
         self.groups.is_same(&other.groups)
@@ -177,14 +177,14 @@ impl Near {
 
 /// Is the change of a turn: what each touched group shows from the tick on. It is empty for rows.
 #[derive(Drop)]
-pub struct Change {
+pub struct GroupChange {
     /// Holds the groups' keys, in order.
     keys: ValueLists,
     /// Holds the row of each group; missing if the group shows none and is dropped.
     rows: ShownLists,
 }
 
-impl Model for Change {
+impl Model for GroupChange {
     ghost use Rattle.std.specs.Prelude.{List};
     ghost use Rattle.group.specs.Excerpts.{ListShown, shown_of};
     ghost use Rattle.group.specs.Turns.{ShownState as State};
@@ -196,12 +196,12 @@ impl Model for Change {
     ghost invariant = { λ c. ListShown c.keys c.rows (shown_of c.keys c.rows) };
 }
 
-impl Change {
-    fn new(keys: ValueLists, rows: ShownLists) -> Change
+impl GroupChange {
+    fn new(keys: ValueLists, rows: ShownLists) -> GroupChange
         requires { ListShown keys rows (shown_of keys rows) }
         ensures { result ≡ shown_of keys rows }
     {
-        Change { keys, rows }
+        GroupChange { keys, rows }
     }
 
     /// Returns the number of groups.
@@ -321,7 +321,7 @@ fn put_swap(
 /// that it shows are appended. `spare` lends room for the row.
 fn change_at(
     group: &GroupBy,
-    near: &Near,
+    near: &GroupExcerpt,
     place: usize,
     spare: &mut Vec<Value>,
     keys: &mut ValueLists,
@@ -349,9 +349,9 @@ fn change_at(
 fn changes(
     alloc: Global,
     group: &GroupBy,
-    near: &Near,
+    near: &GroupExcerpt,
     rows: &mut SignedRows,
-) -> Result<Change, AllocError>
+) -> Result<GroupChange, AllocError>
     requires { rows.old.width ≡ length group.now.items }
     ensures rows { OnOk result (rows.new ≡ with_signed rows.old (outputs group.now near.now)) }
     ensures change { IfOk result (λ c. c ≡ map (shown_now group.now) near.now) }
@@ -362,15 +362,15 @@ fn changes(
     for place in 0..near.len() {
         change_at(group, near, place, &mut spare, &mut keys, &mut shown, rows)?;
     }
-    Ok(Change::new(keys, shown))
+    Ok(GroupChange::new(keys, shown))
 }
 
 fn work_at(
     alloc: Global,
     group: &GroupBy,
     at: u64,
-    near: &Near,
-) -> Result<(Vec<Item>, Change), AllocError>
+    near: &GroupExcerpt,
+) -> Result<(Vec<Item>, GroupChange), AllocError>
     ensures outputs { IfOk result (λ w. flat_map entries_of w.0.items
         ≡ map (RowAt at) (outputs group.now near.now) ++ TickAt at ∷ []) }
     ensures change { IfOk result (λ w. w.1 ≡ map (shown_now group.now) near.now) }
@@ -383,11 +383,11 @@ fn work_at(
 }
 
 /// Returns no outputs, and no change of what is shown.
-fn nothing(alloc: Global) -> (Vec<Item>, Change)
+fn nothing(alloc: Global) -> (Vec<Item>, GroupChange)
     ensures outputs { result.0.items ≡ [] }
     ensures change { result.1 ≡ [] }
 {
-    let change = Change::new(ValueLists::new(alloc), ShownLists::new(alloc));
+    let change = GroupChange::new(ValueLists::new(alloc), ShownLists::new(alloc));
     (Vec::new(alloc), change)
 }
 
@@ -403,8 +403,8 @@ pub fn work(
     alloc: Global,
     group: &GroupBy,
     item: &Item,
-    near: &Near,
-) -> Result<(Vec<Item>, Change), AllocError>
+    near: &GroupExcerpt,
+) -> Result<(Vec<Item>, GroupChange), AllocError>
     ensures outputs { IfOk result (λ w. flat_map entries_of w.0.items
         ≡ out group.now item.now near.now) }
     ensures change { IfOk result (λ w. w.1 ≡ change group.now item.now near.now) }

@@ -3,7 +3,7 @@ ghost use Rattle.std.specs.Prelude.{◌≡◌, ◌↔◌, IsTrue};
 ghost use Rattle.std.specs.Arc.{arc_value};
 
 use crate::command::Command;
-use crate::reply::Reply;
+use crate::reply::CommandReply;
 use std::marker::Model;
 use std::ops::Deref;
 use std::sync::Arc;
@@ -19,7 +19,7 @@ pub struct Entry {
     /// Says what it asked for.
     command: Arc<Command>,
     /// Holds the reply that it got.
-    reply: Reply,
+    reply: CommandReply,
 }
 
 impl Model for Entry {
@@ -37,7 +37,7 @@ impl Model for Entry {
 
 impl Entry {
     /// Returns an entry of a seat.
-    pub fn new(seat: u64, command: Arc<Command>, reply: Reply) -> Entry
+    pub fn new(seat: u64, command: Arc<Command>, reply: CommandReply) -> Entry
         ensures { result
             ≡ record { seat = seat; command = arc_value command; reply = reply } }
     {
@@ -63,7 +63,7 @@ impl Entry {
     }
 
     /// Returns the reply that it got.
-    pub fn reply(&self) -> &Reply
+    pub fn reply(&self) -> &CommandReply
         ensures { result.now ≡ self.now.reply }
     {
         &self.reply

@@ -12,4 +12,4 @@ pub use command::{Command, CommandKind};
 pub use entry::Entry;
 pub use history::are_of;
 pub use receipt::Receipt;
-pub use reply::{Reply, ReplyKind};
+pub use reply::{CommandReply, ReplyKind};

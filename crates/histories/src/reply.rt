@@ -22,12 +22,12 @@ pub enum ReplyKind {
 
 /// Holds the reply to an accepted command. Contracts see it as the machine's reply.
 #[derive(Drop)]
-pub struct Reply {
+pub struct CommandReply {
     /// Holds what it says.
     kind: ReplyKind,
 }
 
-impl Model for Reply {
+impl Model for CommandReply {
     ghost use Rattle.reference.specs.Replies as machine;
     ghost use Rattle.histories.specs.Views.{reply_of};
 
@@ -36,12 +36,12 @@ impl Model for Reply {
     ghost view = { λ r. reply_of r.kind };
 }
 
-impl Reply {
+impl CommandReply {
     /// Returns a reply of this kind.
-    pub fn new(kind: ReplyKind) -> Reply
+    pub fn new(kind: ReplyKind) -> CommandReply
         ensures { result ≡ reply_of kind }
     {
-        Reply { kind }
+        CommandReply { kind }
     }
 
     /// Returns what it says.
@@ -62,21 +62,21 @@ impl Reply {
     ///
     /// # Errors
     /// `AllocError` when no more owners can be counted; nothing has changed.
-    pub fn share(&self) -> Result<Reply, AllocError>
+    pub fn share(&self) -> Result<CommandReply, AllocError>
         ensures { IfOk result (λ reply. reply ≡ self.now) }
     {
         match &self.kind {
-            ReplyKind::Number(number) => Ok(Reply::new(ReplyKind::Number(*number))),
-            ReplyKind::Done => Ok(Reply::new(ReplyKind::Done)),
+            ReplyKind::Number(number) => Ok(CommandReply::new(ReplyKind::Number(*number))),
+            ReplyKind::Done => Ok(CommandReply::new(ReplyKind::Done)),
             ReplyKind::Rows(rows) => {
                 let rows = Arc::try_clone(rows)?;
-                Ok(Reply::new(ReplyKind::Rows(rows)))
+                Ok(CommandReply::new(ReplyKind::Rows(rows)))
             }
         }
     }
 
     /// Returns whether the replies are equal by value. Takes no memory.
-    pub fn is_same(&self, other: &Reply) -> bool
+    pub fn is_same(&self, other: &CommandReply) -> bool
         ensures { IsTrue result ↔ (self.now ≡ other.now) }
     {
         match (&self.kind, &other.kind) {

@@ -2,7 +2,7 @@
 use Rattle.std.proofs.Common.{◌≡◌, ℕ, ◌≤◌, Bool, List, [], ◌∷◌, ◌++◌, refl, sym, ap, ◌∙◌, subst}
 use Rattle.reference.specs.Commands.{Command}
 use Rattle.leases.specs.declared.opening.Opening.{Opening}
-use Rattle.leases.specs.declared.state.State.{State}
+use Rattle.leases.specs.declared.state.EngineState.{EngineState}
 use Rattle.histories.specs.Histories.{Entry, Told}
 use Rattle.reference.specs.Replies.{Reply}
 use Rattle.hub.specs.Calls.{Answered}
@@ -23,7 +23,7 @@ receipt_is t n e e' is same = is ∙ ap (λ x. record { number = n; entry = x })
 pub longer : {X : Type 0} (now mid es : List X) (x y : X) → now ≡ mid ++ x ∷ [] → mid ≡ es → x ≡ y → now ≡ es ++ y ∷ []
 longer now mid es x y is same there = is ∙ ap (λ l. l ++ x ∷ []) same ∙ ap (λ z. es ++ z ∷ []) there
 
-locked_is : (s : State) (m m' : Opening) (f f' : ℕ) (h h' : List Entry) (l l' n n' : ℕ) (k k' : PlainLedger) (b b' : Bool) → m ≡ m' → f ≡ f' → h ≡ h' → l ≡ l' → n ≡ n' → k ≡ k' → b ≡ b'
+locked_is : (s : EngineState) (m m' : Opening) (f f' : ℕ) (h h' : List Entry) (l l' n n' : ℕ) (k k' : PlainLedger) (b b' : Bool) → m ≡ m' → f ≡ f' → h ≡ h' → l ≡ l' → n ≡ n' → k ≡ k' → b ≡ b'
     → (let d : PlainLocked = record { engine = s; opening = m; first = f; history = h; limit = l; seats = n; ledger = k; has_ended = b } in d) ≡ record { engine = s; opening = m'; first = f'; history = h'; limit = l'; seats = n'; ledger = k'; has_ended = b' }
 locked_is s m m' f f' h h' l l' n n' k k' b b' o i p q r j t = rw (o, i, p, q, r, j, t) refl
 

@@ -3,7 +3,7 @@ use Rattle.std.specs.Prelude.{◌≡◌, ℕ, ◌+◌, ◌<◌, ◌≤◌, ◌^�
 use Rattle.std.specs.Prelude.{false, true, Option, None, Result, Ok, Err, ⊤, IfErr, OnErr, OnOk}
 use Rattle.std.specs.Prelude.{◌≢◌, ◌↔◌, IfOk, IsTrue, Some, ℤ}
 use Rattle.envelope.specs.Fraction.{Fraction}
-use Rattle.plan.specs.declared.node.Kind.{Kind}
+use Rattle.plan.specs.declared.node.NodeKind.{NodeKind}
 use Rattle.reference.specs.Commands.{Command}
 use Rattle.reference.specs.Machine.{Machine, empty, query_named, stream_named}
 use Rattle.reference.specs.World.{Looks, slopes_at}
@@ -30,7 +30,7 @@ use Rattle.leases.specs.Views.{empty_engine}
 use Rattle.leases.specs.declared.leased.Leased.{Leased}
 use Rattle.leases.specs.declared.leased.Leased.TheVariants as leased
 use Rattle.leases.specs.declared.opening.Opening.{Opening}
-use Rattle.leases.specs.declared.state.State.{State}
+use Rattle.leases.specs.declared.state.EngineState.{EngineState}
 use Rattle.histories.specs.Histories.{Entry, Replays, Told}
 use Rattle.hub.specs.Seats.{PlainSeat, reach}
 use Rattle.hub.specs.Ledgers.{Agrees, PlainLedger, cleared_of, noted, opened_for, settled_of}
@@ -40,7 +40,7 @@ use Rattle.hub.specs.Calls.{Answered, Refused}
 -- replaces, the entries of the history, how many it may have, how many seats there are, what is
 -- kept of their calls, and whether the end was called
 pub record PlainLocked : Type 0 where
-  pub engine : State
+  pub engine : EngineState
   pub opening : Opening
   pub first : ℕ
   pub history : List Entry
@@ -55,7 +55,7 @@ unfoldable pub engine_at : PlainLocked → PlainEngine
 engine_at l = engine_in l.engine
 
 -- ONLY THE ENGINE is another
-abbrev pub with_engine : PlainLocked → State → PlainLocked
+abbrev pub with_engine : PlainLocked → EngineState → PlainLocked
 with_engine l s = record l { engine = s }
 
 -- and as a plain value it is the same
@@ -331,8 +331,8 @@ pub record SeesPeek {A : Type 0} (view : A → List (ℤ × List (Option ℤ))) 
   pub is : Peeks view (engine_at l) query limit result
   pub next : IfOk result (λ rows. AreNext (engine_at l).machine query limit (view rows))
 
-pub record SeesSlopes {A : Type 0} (view : A → List (Kind × Fraction)) (l : PlainLocked) (query : ℕ)
-    (result : Result A Fault) : Type 0 where
+pub record SeesSlopes {A : Type 0} (view : A → List (NodeKind × Fraction)) (l : PlainLocked)
+    (query : ℕ) (result : Result A Fault) : Type 0 where
   pub legal : IsReplayed l
   pub is : Looks view (slopes_at (world_of (engine_at l)) query) result
 

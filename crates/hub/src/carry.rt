@@ -12,7 +12,7 @@ ghost use Rattle.leases.specs.Takes.{Peeks};
 ghost use Rattle.hub.specs.Calls.{Answered, AreOne, Refused};
 
 use answer_rows::AnswerRows;
-use histories::{Command, CommandKind, Reply, ReplyKind};
+use histories::{Command, CommandKind, CommandReply, ReplyKind};
 use leases::Engine;
 use plan::Chart;
 use reference::{Answering, Fault, NewRows};
@@ -21,17 +21,17 @@ use std::ops::Deref;
 use std::sync::Arc;
 
 /// Holds the same reply four times: for the caller, the history, the seat and the receipt.
-pub(crate) type Replies = (Reply, Reply, Reply, Reply);
+pub(crate) type Replies = (CommandReply, CommandReply, CommandReply, CommandReply);
 
 fn numbered(number: u64) -> Replies
     ensures given { result.0 ≡ Number number }
     ensures one { AreOne result }
 {
     (
-        Reply::new(ReplyKind::Number(number)),
-        Reply::new(ReplyKind::Number(number)),
-        Reply::new(ReplyKind::Number(number)),
-        Reply::new(ReplyKind::Number(number)),
+        CommandReply::new(ReplyKind::Number(number)),
+        CommandReply::new(ReplyKind::Number(number)),
+        CommandReply::new(ReplyKind::Number(number)),
+        CommandReply::new(ReplyKind::Number(number)),
     )
 }
 
@@ -40,10 +40,10 @@ fn finished() -> Replies
     ensures one { AreOne result }
 {
     (
-        Reply::new(ReplyKind::Done),
-        Reply::new(ReplyKind::Done),
-        Reply::new(ReplyKind::Done),
-        Reply::new(ReplyKind::Done),
+        CommandReply::new(ReplyKind::Done),
+        CommandReply::new(ReplyKind::Done),
+        CommandReply::new(ReplyKind::Done),
+        CommandReply::new(ReplyKind::Done),
     )
 }
 
@@ -53,7 +53,7 @@ fn of_rows(rows: &Arc<AnswerRows>) -> Result<Replies, AllocError>
     ensures one { IfOk result AreOne }
 {
     let rows = Arc::try_clone(rows)?;
-    let first = Reply::new(ReplyKind::Rows(rows));
+    let first = CommandReply::new(ReplyKind::Rows(rows));
     let second = first.share()?;
     let third = first.share()?;
     let fourth = first.share()?;

@@ -12,7 +12,7 @@ mod seat;
 mod settled;
 
 pub use audit::seats_that_never_settled_are_audited;
-pub use histories::{Command, CommandKind, Entry, Receipt, Reply, ReplyKind};
+pub use histories::{Command, CommandKind, CommandReply, Entry, Receipt, ReplyKind};
 pub use hub::{Hub, LeaseRest, LeaseWait};
 pub use leases::Leased;
 pub use locked::{Closed, Locked, MAX_ENTRIES, MAX_HISTORY, MAX_SEATS, Rested, Waited};

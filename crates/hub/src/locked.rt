@@ -21,7 +21,7 @@ mod turns;
 
 use crate::audit::{count_alone, is_accounted};
 use crate::ledger::Ledger;
-use crate::measure::Measure;
+use crate::measure::HistoryMeasure;
 use crate::seat::Seat;
 use histories::Entry;
 use leases::{Engine, Opening};
@@ -105,7 +105,7 @@ pub struct Locked {
     /// Says whether the end was called.
     has_ended: bool,
     /// Measures the history, to say when to forget. Contracts do not see it.
-    measure: Measure,
+    measure: HistoryMeasure,
     /// Counts the steps that may let a thread go on that could not. Contracts do not see it.
     changes: u64,
 }
@@ -174,7 +174,7 @@ impl Locked {
             seats,
             ledger,
             has_ended: false,
-            measure: Measure::new(history_limit),
+            measure: HistoryMeasure::new(history_limit),
             changes: 0,
         };
         Ok((locked, places))

@@ -18,7 +18,7 @@ const ANSWER: u64 = 4;
 
 /// Measures a history, in values of 8 bytes.
 #[derive(Drop)]
-pub(crate) struct Measure {
+pub(crate) struct HistoryMeasure {
     /// Counts the values of the entries since the last forget.
     values: u64,
     /// Counts the values that the last forget kept.
@@ -31,10 +31,10 @@ pub(crate) struct Measure {
     limit: u64,
 }
 
-impl Measure {
+impl HistoryMeasure {
     /// Measures an empty history of at most `limit` entries.
-    pub(crate) fn new(limit: u64) -> Measure {
-        Measure {
+    pub(crate) fn new(limit: u64) -> HistoryMeasure {
+        HistoryMeasure {
             values: 0,
             kept: 0,
             resumes: 0,

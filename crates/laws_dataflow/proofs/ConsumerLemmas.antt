@@ -1,7 +1,7 @@
 -- Each operator of a plan has one consumer.
 use Rattle.std.proofs.Common.{◌≡◌, ◌≢◌, ℕ, zero, suc, ◌+◌, ◌-◌, ◌<◌, ◌≤◌, ◌==◌, nat_lt, Bool, true, false, cond, inl, inr, List, [], ◌∷◌, ◌++◌, length, get_or, refl, sym, ap, ◌∙◌, subst, arith, length-append, eqb-true}
 use Rattle.std.proofs.lemmas.Bool.{eqb-false, lt-ltb, le-ltb, ltb-true, ltb-false}
-use Rattle.values.specs.Condition.{Column, Condition}
+use Rattle.values.specs.Condition.{SourceColumn, Condition}
 use Rattle.values.specs.Relation.{Shape, Listed, Grouped}
 use Rattle.values.specs.Answers.{StreamOperator}
 use Rattle.plan.specs.Nodes.{Key, Window, Select, Join, Project, Group, Distinct, ToStream}
@@ -83,7 +83,7 @@ rest-times : (i m top : ℕ) (cs : List Condition) → times i (rest_nodes top c
 rest-times i m top [] = omega (arith, under_same (m + 0) m i (omega arith))
 rest-times i m top (c ∷ cs) = omega (arith, under_next m i, under_same (suc m) (m + 1) i (omega arith))
 
-shape-uses : (i : ℕ) (f : Column → Column) (top : ℕ) (shape : Shape) → uses i (shape_node f top shape) ≡ one top i
+shape-uses : (i : ℕ) (f : SourceColumn → SourceColumn) (top : ℕ) (shape : Shape) → uses i (shape_node f top shape) ≡ one top i
 shape-uses i f top (Listed columns) = refl
 shape-uses i f top (Grouped by items) = refl
 
@@ -93,7 +93,7 @@ ends-times i true shape op k last e = omega (arith, e, under_next k i, under_nex
 ends-times i false shape op k last e = omega (arith, e, under_next k i, under_same (suc k) (k + 1) i (omega arith))
 
 -- EACH OPERATOR BELOW THE ROOT is an input once, and the root is the input of none
-pub nodes-times : (i : ℕ) (own : List (List Condition)) (keys : List (List Key)) (rest : List Condition) (b : Bool) (f : Column → Column) (shape : Shape) (op : StreamOperator) → 0 < length (tops 0 own) → length keys ≡ length (tops 0 own) - 1
+pub nodes-times : (i : ℕ) (own : List (List Condition)) (keys : List (List Key)) (rest : List Condition) (b : Bool) (f : SourceColumn → SourceColumn) (shape : Shape) (op : StreamOperator) → 0 < length (tops 0 own) → length keys ≡ length (tops 0 own) - 1
     → times i (nodes_over own keys rest b (λ top. shape_node f top shape) op) ≡ under (length (nodes_over own keys rest b (λ top. shape_node f top shape) op) - 1) i
 nodes-times i own keys rest b f shape op some e =
     let sources : List plan.Node = source_nodes 0 0 own in

@@ -3,7 +3,7 @@ use Rattle.std.proofs.Common.{◌≡◌, ℕ, zero, suc, ◌+◌, ◌-◌, ◌<�
 use Rattle.std.specs.List.{AllByRecursion}
 use Rattle.std.proofs.lemmas.List.{get_or_append_left}
 use Rattle.std.proofs.Math.Seq.{get_or-append_seam}
-use Rattle.values.specs.Condition.{Column, Condition}
+use Rattle.values.specs.Condition.{SourceColumn, Condition}
 use Rattle.values.specs.Relation.{Shape, Listed, Grouped}
 use Rattle.values.specs.Answers.{StreamOperator}
 use Rattle.plan.specs.Nodes as plan
@@ -120,7 +120,7 @@ module _ (closed : ℕ → ℕ) where
   rest-least done n top [] e = refl
   rest-least done n top (c ∷ cs) e = at_end done (get_or done top 0) n e
 
-  shape-least : (done : List ℕ) (f : Column → Column) (top : ℕ) (shape : Shape) → least_by closed done (shape_node f top shape) ≡ get_or done top 0
+  shape-least : (done : List ℕ) (f : SourceColumn → SourceColumn) (top : ℕ) (shape : Shape) → least_by closed done (shape_node f top shape) ≡ get_or done top 0
   shape-least done f top (Listed columns) = refl
   shape-least done f top (Grouped by items) = refl
 
@@ -145,7 +145,7 @@ module _ (closed : ℕ → ℕ) where
       rw p (at_end more y (suc k) long ∙ at_end done x k e ∙ h)
 
   -- THE LEAST INSTANT OF THE ROOT is the least of all sources
-  pub nodes-least : (own : List (List Condition)) (keys : List (List Key)) (rest : List Condition) (b : Bool) (f : Column → Column) (shape : Shape) (op : StreamOperator) → 0 < length (tops 0 own) → length keys ≡ length (tops 0 own) - 1
+  pub nodes-least : (own : List (List Condition)) (keys : List (List Key)) (rest : List Condition) (b : Bool) (f : SourceColumn → SourceColumn) (shape : Shape) (op : StreamOperator) → 0 < length (tops 0 own) → length keys ≡ length (tops 0 own) - 1
       → get_or (leasts_of closed [] (nodes_over own keys rest b (λ top. shape_node f top shape) op)) (length (nodes_over own keys rest b (λ top. shape_node f top shape) op) - 1) 0 ≡ least_all (closed_from 0 (length own))
   nodes-least own keys rest b f shape op some e =
       let sources : List plan.Node = source_nodes 0 0 own in

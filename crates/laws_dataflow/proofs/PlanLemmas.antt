@@ -6,7 +6,7 @@ use Rattle.std.proofs.lemmas.List.FromFn.{length-map-range_with_len}
 use Rattle.values.specs.Row.{Row, row_cmp}
 use Rattle.values.specs.Window.{Element, Window, Unbounded, window_rows}
 use Rattle.values.specs.Bag.{distinct}
-use Rattle.values.specs.Condition.{Column, Condition}
+use Rattle.values.specs.Condition.{SourceColumn, Condition}
 use Rattle.values.specs.Relation.{Shape, Listed, Grouped}
 use Rattle.values.specs.Answers.{StreamOperator, Resolved, shown_at}
 use Rattle.names.specs.Split.{all_conjuncts, join_keys, join_keys_of, own, own_of, remaining}
@@ -74,7 +74,7 @@ end_root : (b : Bool) (shape : plan.Node) (op : StreamOperator) (k : ℕ) → ge
 end_root true shape op k = let e : suc k ≡ k + 1 = omega arith in ap (λ i. ToStream i op) e
 end_root false shape op k = let e : k ≡ k + 0 = omega arith in ap (λ i. ToStream i op) e
 
-nodes-root : (own : List (List Condition)) (keys : List (List Key)) (rest : List Condition) (b : Bool) (f : Column → Column) (shape : Shape) (op : StreamOperator)
+nodes-root : (own : List (List Condition)) (keys : List (List Key)) (rest : List Condition) (b : Bool) (f : SourceColumn → SourceColumn) (shape : Shape) (op : StreamOperator)
     → (2 ≤ length (nodes_over own keys rest b (λ top. shape_node f top shape) op))
     × (get_or (nodes_over own keys rest b (λ top. shape_node f top shape) op) (length (nodes_over own keys rest b (λ top. shape_node f top shape) op) - 1) (WindowNode 0) ≡ ToStream (length (nodes_over own keys rest b (λ top. shape_node f top shape) op) - 2) op)
 nodes-root own keys rest b f shape op =

@@ -16,7 +16,7 @@ use Rattle.cql_reader.specs.declared.symbols.Symbol.TheVariants.{Read, Rule, Emi
 use Rattle.cql_reader.specs.Lexis.{number_of}
 use Rattle.cql_reader.specs.Tokens.{Token}
 use Rattle.cql_reader.specs.Fault.{Fault}
-use Rattle.cql_reader.specs.Query.{Query, Condition, Compared, Not, And, Or, Operand}
+use Rattle.cql_reader.specs.Query.{Query, WrittenCondition, Compared, Not, And, Or, WrittenOperand}
 use Rattle.cql_reader.specs.Grammar.{Among, Draft, Strict, alternatives, allowed, deepens, did, in_range, last_standing, may_open, negated, conjoined, disjoined, took, Derives, nothing, read, emit, rule}
 use Rattle.cql_reader.specs.Reading.{IsAnswer, reading}
 use Rattle.cql_reader.proofs.OneAnswer.{reading_right}
@@ -25,36 +25,36 @@ use Rattle.names.specs.Resolved.{condition_of}
 use Rattle.row_nodes.specs.Steps.{truths_needed}
 
 -- THE TRUTHS that wait at a time, in the words of the text
-abbrev pub needed : Condition → ℕ
+abbrev pub needed : WrittenCondition → ℕ
 needed (Compared a how b) = 1
 needed (Not c) = needed c
 needed (And c d) = max (needed c) (needed d + 1)
 needed (Or c d) = max (needed c) (needed d + 1)
 
-needed_of : (ts : List Table) (c : Condition) → truths_needed (condition_of ts c) ≡ needed c
+needed_of : (ts : List Table) (c : WrittenCondition) → truths_needed (condition_of ts c) ≡ needed c
 needed_of ts (Compared a how b) = refl
 needed_of ts (Not c) = needed_of ts c
 needed_of ts (And c d) = ap₂ (λ k n. max k (n + 1)) (needed_of ts c) (needed_of ts d)
 needed_of ts (Or c d) = ap₂ (λ k n. max k (n + 1)) (needed_of ts c) (needed_of ts d)
 
 -- WHAT IS LEFT OF A TEXT, with so many ( and Not open and these conditions standing: wherever it is read to its end, all conditions need few
-abbrev AllFew : List Condition → Type 0
+abbrev AllFew : List WrittenCondition → Type 0
 AllFew cs = AllByRecursion (λ c. needed c ≤ 67) cs
 
 -- what a part makes of that, of which `Goes` says that the rest may be read from there
-abbrev Whole : (ℕ → List Condition → Type 0) → ℕ → List Condition → Type 0
-Whole Goes depth cs = (depth ≡ 0) × AllFew cs × ((ds : List Condition) → AllFew ds → Goes depth ds)
+abbrev Whole : (ℕ → List WrittenCondition → Type 0) → ℕ → List WrittenCondition → Type 0
+Whole Goes depth cs = (depth ≡ 0) × AllFew cs × ((ds : List WrittenCondition) → AllFew ds → Goes depth ds)
 
 -- it leaves one condition more, for which there is room
-abbrev One : ℕ → (ℕ → List Condition → Type 0) → ℕ → List Condition → Type 0
-One room Goes depth cs = (depth ≤ 32) × ((c : Condition) → needed c + 2 * depth ≤ room → Goes depth (c ∷ cs))
+abbrev One : ℕ → (ℕ → List WrittenCondition → Type 0) → ℕ → List WrittenCondition → Type 0
+One room Goes depth cs = (depth ≤ 32) × ((c : WrittenCondition) → needed c + 2 * depth ≤ room → Goes depth (c ∷ cs))
 
 -- it makes another of the one that stands last
-abbrev Longer : ℕ → (ℕ → List Condition → Type 0) → ℕ → List Condition → Type 0
+abbrev Longer : ℕ → (ℕ → List WrittenCondition → Type 0) → ℕ → List WrittenCondition → Type 0
 Longer room Goes depth [] = ⊥
-Longer room Goes depth (a ∷ cs) = (depth ≤ 32) × (needed a + 2 * depth ≤ room) × ((c : Condition) → needed c + 2 * depth ≤ room → Goes depth (c ∷ cs))
+Longer room Goes depth (a ∷ cs) = (depth ≤ 32) × (needed a + 2 * depth ≤ room) × ((c : WrittenCondition) → needed c + 2 * depth ≤ room → Goes depth (c ∷ cs))
 
-abbrev AtPart : Part → (ℕ → List Condition → Type 0) → ℕ → List Condition → Type 0
+abbrev AtPart : Part → (ℕ → List WrittenCondition → Type 0) → ℕ → List WrittenCondition → Type 0
 AtPart p.Query Goes depth cs = Whole Goes depth cs
 AtPart p.Form Goes depth cs = Whole Goes depth cs
 AtPart p.Op Goes depth cs = Goes depth cs
@@ -96,7 +96,7 @@ AtPart p.OptGroup Goes depth cs = Goes depth cs
 AtPart p.End Goes depth cs = Goes depth cs
 
 -- a token: ( and Not open one more, if 32 are not open already
-abbrev AtToken : Role → (ℕ → List Condition → Type 0) → ℕ → List Condition → Type 0
+abbrev AtToken : Role → (ℕ → List WrittenCondition → Type 0) → ℕ → List WrittenCondition → Type 0
 AtToken (r.Fixed kind) Goes depth cs = Goes depth cs
 AtToken (r.Operator operator) Goes depth cs = Goes depth cs
 AtToken r.Distinct Goes depth cs = Goes depth cs
@@ -115,24 +115,21 @@ AtToken (r.Compare how) Goes depth cs = Goes depth cs
 AtToken (r.Deeper kind) Goes depth cs = depth < 32 → Goes (depth + 1) cs
 
 -- what is done between tokens
-abbrev AtMark : Mark → (ℕ → List Condition → Type 0) → ℕ → List Condition → Type 0
+abbrev AtMark : Mark → (ℕ → List WrittenCondition → Type 0) → ℕ → List WrittenCondition → Type 0
 AtMark m.Column Goes depth cs = Goes depth cs
 AtMark m.CountAll Goes depth cs = Goes depth cs
-AtMark m.Count Goes depth cs = Goes depth cs
-AtMark m.Sum Goes depth cs = Goes depth cs
-AtMark m.Min Goes depth cs = Goes depth cs
-AtMark m.Max Goes depth cs = Goes depth cs
+AtMark (m.Of a) Goes depth cs = Goes depth cs
 AtMark m.Listed Goes depth cs = Goes depth cs
 AtMark m.Grouped Goes depth cs = Goes depth cs
 AtMark m.Source Goes depth cs = Goes depth cs
 AtMark m.Named Goes depth cs = Goes depth cs
-AtMark m.Compared Goes depth cs = (a : Operand) (how : Compare) (b : Operand) → Goes depth (Compared a how b ∷ cs)
+AtMark m.Compared Goes depth cs = (a : WrittenOperand) (how : Compare) (b : WrittenOperand) → Goes depth (Compared a how b ∷ cs)
 AtMark m.Negate Goes depth cs = Goes depth (negated cs)
 AtMark m.Conjoin Goes depth cs = Goes depth (conjoined cs)
 AtMark m.Disjoin Goes depth cs = Goes depth (disjoined cs)
 AtMark m.Leave Goes depth cs = Goes (depth - 1) cs
 
-abbrev Goes : List Symbol → ℕ → List Condition → Type 0
+abbrev Goes : List Symbol → ℕ → List WrittenCondition → Type 0
 Goes [] depth cs = AllFew cs
 Goes (Read role ∷ xs) depth cs = AtToken role (Goes xs) depth cs
 Goes (Rule part ∷ xs) depth cs = AtPart part (Goes xs) depth cs
@@ -142,7 +139,7 @@ left_one : (depth : ℕ) → depth + 1 - 1 ≡ depth
 left_one depth = omega arith
 
 -- so it goes on by each alternative of a part
-by_each : (part : Part) (xs : List Symbol) (depth : ℕ) (cs : List Condition) → AtPart part (Goes xs) depth cs → AllByRecursion (λ ys. Goes (ys ++ xs) depth cs) (alternatives part)
+by_each : (part : Part) (xs : List Symbol) (depth : ℕ) (cs : List WrittenCondition) → AtPart part (Goes xs) depth cs → AllByRecursion (λ ys. Goes (ys ++ xs) depth cs) (alternatives part)
 unfolding alternatives
 by_each p.Query xs depth cs h = (h, tt)
 by_each p.Form xs depth cs h = (h, (h, tt))
@@ -221,10 +218,7 @@ by_mark : (xs : List Symbol) (mark : Mark) (d : Draft) → AtMark mark (Goes xs)
 unfolding did
 by_mark xs m.Column d h = h
 by_mark xs m.CountAll d h = h
-by_mark xs m.Count d h = h
-by_mark xs m.Sum d h = h
-by_mark xs m.Min d h = h
-by_mark xs m.Max d h = h
+by_mark xs (m.Of a) d h = h
 by_mark xs m.Listed d h = h
 by_mark xs m.Grouped d h = h
 by_mark xs m.Source d h = h
@@ -245,11 +239,11 @@ derived_few (rule {part = part} {xs = xs} {d = d} ys among rest) g =
     derived_few rest (of_each (λ zs. Goes (zs ++ xs) d.depth d.terms.standing) ys (alternatives part) (by_each part xs d.depth d.terms.standing g) among)
 
 -- THE CONDITION that is read
-abbrev pub IsFew : Option Condition → Type 0
+abbrev pub IsFew : Option WrittenCondition → Type 0
 IsFew None = Unit {0}
 IsFew (Some c) = needed c ≤ 67
 
-last_few : (cs : List Condition) → AllFew cs → IsFew (last_standing cs)
+last_few : (cs : List WrittenCondition) → AllFew cs → IsFew (last_standing cs)
 last_few [] h = tt
 last_few (c ∷ cs) h = h.0
 
@@ -260,7 +254,7 @@ read_few text q e =
     let few : AllFew d.terms.standing = derived_few right.1.derived (refl, tt, λ ds h. h) in
     subst (λ (z : Query). IsFew z.condition) (sym right.1.built) (last_few d.terms.standing few)
 
-pub resolved_few : (ts : List Table) (o : Option Condition) → IsFew o → (c : meant.Condition) → option_map (condition_of ts) o ≡ Some c → truths_needed c ≤ 67
+pub resolved_few : (ts : List Table) (o : Option WrittenCondition) → IsFew o → (c : meant.Condition) → option_map (condition_of ts) o ≡ Some c → truths_needed c ≤ 67
 resolved_few ts None h c e = absurd (cc)
 resolved_few ts (Some d) h c e =
     let is : condition_of ts d ≡ c = cc in

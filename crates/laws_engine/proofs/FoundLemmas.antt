@@ -90,7 +90,7 @@ source_width : (ss : List Stream) (o : Option ℕ) → is_none o ≡ false → l
 source_width ss None h = absurd (cc)
 source_width ss (Some n) h = columns_by ss n
 
-source_widths : (ss : List Stream) (sources : List syntax.Source) → list_any (λ s. is_none (number_in (catalog_of ss) s.stream)) sources ≡ false
+source_widths : (ss : List Stream) (sources : List syntax.WrittenSource) → list_any (λ s. is_none (number_in (catalog_of ss) s.stream)) sources ≡ false
     → map (λ t. length t.columns) (tables (catalog_of ss) sources) ≡ map (columns_of ss) (map (λ s. unwrap_or (number_in (catalog_of ss) s.stream) 0) sources)
 source_widths ss [] h = refl
 source_widths ss (s ∷ sources) h =

@@ -26,7 +26,7 @@ or_none true b h = absurd (cc)
 or_none false b h = (refl, h)
 
 -- WINDOWS
-window_text : (t : Table) (w : syntax.Window) → IsGoodWindow w → nat_lt MAX_COLUMNS (length (partition_of w)) ≡ false → IsTextWindow (window_of t w)
+window_text : (t : Table) (w : syntax.WrittenWindow) → IsGoodWindow w → nat_lt MAX_COLUMNS (length (partition_of w)) ≡ false → IsTextWindow (window_of t w)
 window_text t syntax.Now g h = tt
 window_text t (syntax.Range instants) g h = tt
 window_text t (syntax.RangeSlide instants step) g h = omega (arith, g.1.0)
@@ -34,7 +34,7 @@ window_text t syntax.Unbounded g h = tt
 window_text t (syntax.Rows rows) g h = omega arith
 window_text t (syntax.Partition by rows) g h = omega (arith, ltb-false MAX_COLUMNS (length by) h, length-map by (place_in t))
 
-windows_text : (catalog : List Stream) (ss : List syntax.Source) → Each' (λ s. IsGoodWindow s.window) ss
+windows_text : (catalog : List Stream) (ss : List syntax.WrittenSource) → Each' (λ s. IsGoodWindow s.window) ss
     → list_any (λ s. nat_lt MAX_COLUMNS (length (partition_of s.window))) ss ≡ false → AllByRecursion IsTextWindow (windows_of catalog ss)
 windows_text catalog [] g h = tt
 windows_text catalog (s ∷ ss) g h =
@@ -42,7 +42,7 @@ windows_text catalog (s ∷ ss) g h =
     (window_text (table_of catalog s) s.window (g zero s (omega arith)) both.0, windows_text catalog ss (λ k d lt. g (suc k) d (omega (arith, lt))) both.1)
 
 -- THE CONDITION
-condition_text : (ts : List Table) (o : Option syntax.Condition) → IsFew o → NeedsFewTruths (option_map (condition_of ts) o)
+condition_text : (ts : List Table) (o : Option syntax.WrittenCondition) → IsFew o → NeedsFewTruths (option_map (condition_of ts) o)
 condition_text ts None h = tt
 condition_text ts (Some c) h = resolved_few ts (Some c) h (condition_of ts c) refl
 
@@ -50,21 +50,18 @@ condition_text ts (Some c) h = resolved_few ts (Some c) h (condition_of ts c) re
 columns_counted : (s : ℕ) (ts : List Table) → length (all_columns s ts) ≡ sum (map (λ t. length t.columns) ts)
 columns_counted s [] = refl
 columns_counted s (t ∷ ts) =
-    let column : ℕ → meant.Column = λ k. record { source = s; column = k } in
+    let column : ℕ → meant.SourceColumn = λ k. record { source = s; column = k } in
     length-append (map column (range_with_len 0 (length t.columns))) (all_columns (suc s) ts)
     ∙ ap (λ (n : ℕ). n + length (all_columns (suc s) ts)) (length-map-range_with_len column 0 (length t.columns))
     ∙ ap (λ (n : ℕ). length t.columns + n) (columns_counted (suc s) ts)
     ∙ sym (sum_by-cons (λ n. n) (length t.columns) (map (λ t. length t.columns) ts))
 
-named_once : (e : syntax.Entry) → length (named_by e) ≤ 1
+named_once : (e : syntax.WrittenEntry) → length (named_by e) ≤ 1
 named_once (syntax.Column r) = omega arith
 named_once syntax.CountAll = omega arith
-named_once (syntax.Count r) = omega arith
-named_once (syntax.Sum r) = omega arith
-named_once (syntax.Min r) = omega arith
-named_once (syntax.Max r) = omega arith
+named_once (syntax.Of a r) = omega arith
 
-named_few : (es : List syntax.Entry) → length (flat_map named_by es) ≤ length es
+named_few : (es : List syntax.WrittenEntry) → length (flat_map named_by es) ≤ length es
 named_few [] = omega arith
 named_few (e ∷ es) = omega (arith, named_once e, named_few es, length-append (named_by e) (flat_map named_by es))
 
@@ -78,12 +75,9 @@ listed_some ts syntax.All h e w = omega (arith, w, columns_counted 0 ts)
 listed_some ts (syntax.Each []) h e w = absurd (omega (arith, h))
 listed_some ts (syntax.Each (syntax.Column r ∷ es)) h e w = omega arith
 listed_some ts (syntax.Each (syntax.CountAll ∷ es)) h e w = absurd (cc)
-listed_some ts (syntax.Each (syntax.Count r ∷ es)) h e w = absurd (cc)
-listed_some ts (syntax.Each (syntax.Sum r ∷ es)) h e w = absurd (cc)
-listed_some ts (syntax.Each (syntax.Min r ∷ es)) h e w = absurd (cc)
-listed_some ts (syntax.Each (syntax.Max r ∷ es)) h e w = absurd (cc)
+listed_some ts (syntax.Each (syntax.Of a r ∷ es)) h e w = absurd (cc)
 
-items_some : (ts : List Table) (by : List meant.Column) (es : syntax.Entries) → HasItems es → has_outside ts by es ≡ false → 0 < length (map (item_of ts by) (entry_list es))
+items_some : (ts : List Table) (by : List meant.SourceColumn) (es : syntax.Entries) → HasItems es → has_outside ts by es ≡ false → 0 < length (map (item_of ts by) (entry_list es))
 items_some ts by syntax.All h e = absurd (cc)
 items_some ts by (syntax.Each es) h e = omega (arith, h, length-map es (item_of ts by))
 
@@ -92,7 +86,7 @@ record FitsRow (s : Shape) : Type 0 where
   pub shown : 0 < shape_width s
   pub narrow : IsNarrowShape s
 
-either_shape : (b : Bool) (listed : List meant.Column) (by : List meant.Column) (items : List ListItem)
+either_shape : (b : Bool) (listed : List meant.SourceColumn) (by : List meant.SourceColumn) (items : List ListItem)
     → (b ≡ true → FitsRow (Grouped by items)) → (b ≡ false → FitsRow (Listed listed)) → FitsRow (cond b (Grouped by items) (Listed listed))
 either_shape true listed by items h k = h refl
 either_shape false listed by items h k = k refl
@@ -104,7 +98,7 @@ and_none false b e h = absurd (cc)
 shape_fits : (ts : List Table) (q : syntax.Query) → HasItems q.entries → length (entry_list q.entries) ≤ MAX_COLUMNS → length q.group ≤ MAX_COLUMNS → is_ungrouped ts q ≡ false
     → 0 < sum (map (λ t. length t.columns) ts) → sum (map (λ t. length t.columns) ts) ≤ MAX_COLUMNS → FitsRow (shape_of ts q)
 shape_fits ts q items few_items few_by outside some few_columns =
-    let by : List meant.Column = map (column_of ts) q.group in
+    let by : List meant.SourceColumn = map (column_of ts) q.group in
     either_shape (is_grouped q) (listed_columns ts q.entries) by (map (item_of ts by) (entry_list q.entries))
     (λ grouped. record {
       shown = items_some ts by q.entries items (and_none (is_grouped q) (has_outside ts by q.entries) grouped outside);
@@ -126,7 +120,7 @@ columns_some : (catalog : List Stream) (o : Option ℕ) → AllByRecursion (λ s
 columns_some catalog None h e l = absurd (cc)
 columns_some catalog (Some n) h e l = columns_here catalog n h l
 
-sources_some : (catalog : List Stream) (ss : List syntax.Source) → AllByRecursion (λ s. 0 < length s.columns) catalog → 0 < length ss
+sources_some : (catalog : List Stream) (ss : List syntax.WrittenSource) → AllByRecursion (λ s. 0 < length s.columns) catalog → 0 < length ss
     → list_any (λ s. is_none (number_in catalog s.stream)) ss ≡ false → 0 < sum (map (λ t. length t.columns) (tables catalog ss))
 sources_some catalog [] h l e = absurd (omega (arith, l))
 sources_some catalog (s ∷ ss) h l e =

@@ -7,7 +7,7 @@ use Rattle.std.specs.Option.{option_map_or}
 use Rattle.values.specs.Row.{Row}
 use Rattle.column.specs.declared.batch.Side.{Side}
 use Rattle.op_queue.specs.declared.item.Item.{Item}
-use Rattle.turn.specs.declared.excerpts.Near.{Near}
+use Rattle.turn.specs.declared.excerpts.Excerpt.{Excerpt}
 use Rattle.operators.specs.Operators.{ready}
 use Rattle.operators.specs.States.{last_in, near_of}
 use Rattle.envelope.specs.Fraction.{Fraction, fraction}
@@ -55,7 +55,7 @@ pub record Lease : Type 0 where
   pub operator : ℕ
   pub side : Side
   pub item : Item
-  pub excerpt : Near
+  pub excerpt : Excerpt
 
 -- the streams and queries, what is left of each query by its number, the
 -- turns that are out, the number of the next, and the slots of all operators

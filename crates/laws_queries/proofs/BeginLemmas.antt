@@ -3,7 +3,7 @@ use Rattle.std.proofs.Common.{◌≡◌, ℕ, zero, suc, ◌+◌, ◌-◌, ◌<�
 use Rattle.std.specs.List.{AllByRecursion, range_with_len}
 use Rattle.std.proofs.lemmas.Bool.{le-leb, leb-true, lt-ltb, eq-eqb}
 use Rattle.values.specs.Row.{Row}
-use Rattle.values.specs.Condition.{Column, Condition, And, keeps, is_known_true}
+use Rattle.values.specs.Condition.{SourceColumn, Condition, And, keeps, is_known_true}
 use Rattle.values.specs.Resolved.{columns_of, window_of}
 use Rattle.values.specs.Window.{Element}
 use Rattle.values.specs.Window as shown
@@ -101,12 +101,12 @@ select_fits vs ws i (c ∷ cs) h =
     }
 
 -- PROJECT AND GROUP
-pub places_fit : (w : ℕ) (places : List ℕ) → AllByRecursion (λ (c : Column). c.column < w) (columns_at places) → All (λ k. k < w) places
-places_fit w places h = all_from (λ k. k < w) places (each-unmap (λ (c : Column). c.column < w) at places h)
+pub places_fit : (w : ℕ) (places : List ℕ) → AllByRecursion (λ (c : SourceColumn). c.column < w) (columns_at places) → All (λ k. k < w) places
+places_fit w places h = all_from (λ k. k < w) places (each-unmap (λ (c : SourceColumn). c.column < w) at places h)
 
 pub by_same : (by : List ℕ) → columns_at by ≡ columns_of (map column_at by)
 by_same [] = refl
-by_same (k ∷ by) = ap (λ (cs : List Column). at k ∷ cs) (by_same by)
+by_same (k ∷ by) = ap (λ (cs : List SourceColumn). at k ∷ cs) (by_same by)
 
 -- WINDOWS
 pub record WindowBegins (first w : ℕ) (x : Window) (k : Kind) (s : State) : Type 0 where

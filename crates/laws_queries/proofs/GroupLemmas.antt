@@ -13,10 +13,11 @@ use Rattle.std.proofs.lemmas.List.Elements.{All-nil, All-cons, All-head, All-tai
 use Rattle.values.specs.Bag.{is_same, distinct, without}
 use Rattle.values.specs.Row.{Row, row_cmp, same_row, value_at}
 use Rattle.values.specs.Value.{IsAnswerValue, IsAnswerNumber, answer_max, clamp_answer}
-use Rattle.values.specs.Condition.{Column, field}
+use Rattle.values.specs.Condition.{SourceColumn, field}
 use Rattle.values.specs.Relation as relations
 use Rattle.values.specs.Relation.{item_value, numbers, key_of, keys_of as keys_in, group_row}
 use Rattle.values.specs.Resolved.{columns_of, item_of, items_of}
+use Rattle.values.specs.declared.resolved.Aggregate.TheVariants.{Count, Sum, Min, Max}
 use Rattle.values.specs.declared.resolved.ListItem.{ListItem}
 use Rattle.values.proofs.Order.{row_order}
 use Rattle.op_queue.specs.Signed.{weigh, gain, up}
@@ -251,7 +252,7 @@ outputs_few s o b h h2 =
 
 -- THE RELATION OF THE GROUPS
 abbrev Fields : List Row → Type 0
-Fields rows = (c : Column) → IsAnswerValue (field rows c)
+Fields rows = (c : SourceColumn) → IsAnswerValue (field rows c)
 
 min_in : (a b : ℤ) → IsAnswerNumber a → IsAnswerNumber b → IsAnswerNumber (int_min a b)
 min_in a b h k =
@@ -280,7 +281,7 @@ sum_in (Some z) = (omega (arith, ints, clamps), omega (arith, ints, clamps))
 count_in : (n : ℕ) → n ≤ 2 ^ 62 → IsAnswerValue (Some (pos n))
 count_in n h = (omega (arith, ints, h), omega (arith, ints, h))
 
-numbers_in : (c : Column) (group : List (List Row)) → All Fields group → All IsAnswerNumber (numbers c group)
+numbers_in : (c : SourceColumn) (group : List (List Row)) → All Fields group → All IsAnswerNumber (numbers c group)
 numbers_in c [] a = All-nil IsAnswerNumber
 numbers_in c (rows ∷ group) a = here (field rows c) (All-head Fields rows group a c) (numbers_in c group (All-tail Fields rows group a))
   where
@@ -288,7 +289,7 @@ numbers_in c (rows ∷ group) a = here (field rows c) (All-head Fields rows grou
     here None h i = i
     here (Some z) h i = All-cons IsAnswerNumber z (numbers c group) h i
 
-numbers_length : (c : Column) (group : List (List Row)) → length (numbers c group) ≤ length group
+numbers_length : (c : SourceColumn) (group : List (List Row)) → length (numbers c group) ≤ length group
 numbers_length c [] = omega arith
 numbers_length c (rows ∷ group) = here (field rows c) (numbers_length c group)
   where
@@ -300,10 +301,10 @@ item_in : (key : Row) (group : List (List Row)) → InRange key → length group
     → IsAnswerValue (item_value key group i)
 item_in key group k l a (relations.Key j) = value_in key j k
 item_in key group k l a relations.CountAll = count_in (length group) l
-item_in key group k l a (relations.Count c) = count_in (length (numbers c group)) (omega (arith, l, numbers_length c group))
-item_in key group k l a (relations.Sum c) = sum_in (reduce ◌+ℤ◌ (numbers c group))
-item_in key group k l a (relations.Min c) = reduce_in int_min min_in (numbers c group) (numbers_in c group a)
-item_in key group k l a (relations.Max c) = reduce_in int_max max_in (numbers c group) (numbers_in c group a)
+item_in key group k l a (relations.Of Count c) = count_in (length (numbers c group)) (omega (arith, l, numbers_length c group))
+item_in key group k l a (relations.Of Sum c) = sum_in (reduce ◌+ℤ◌ (numbers c group))
+item_in key group k l a (relations.Of Min c) = reduce_in int_min min_in (numbers c group) (numbers_in c group a)
+item_in key group k l a (relations.Of Max c) = reduce_in int_max max_in (numbers c group) (numbers_in c group a)
 
 kept_length : {X : Type 0} (p : X → Bool) (xs : List X) → length (filter p xs) ≤ length xs
 kept_length p [] = omega arith
@@ -313,7 +314,7 @@ kept_length {X = X} p (x ∷ xs) = here (p x) (kept_length p xs)
     here true i = omega (arith, i)
     here false i = omega (arith, i)
 
-group_wide : (by : List Column) (items : List relations.ListItem) (kept : List (List Row)) (key : Row) → length kept ≤ 2 ^ 62 → All Fields kept → InRange key
+group_wide : (by : List SourceColumn) (items : List relations.ListItem) (kept : List (List Row)) (key : Row) → length kept ≤ 2 ^ 62 → All Fields kept → InRange key
     → IsRow (length items) (group_row by items kept key)
 group_wide by items kept key l a k =
     let mine : List Row → Bool = λ rows. same_row key (key_of by rows) in
@@ -332,7 +333,7 @@ all_distinct P (x ∷ xs) a = here (list_any (is_same row_cmp x) xs) (all_distin
     here true i = i
     here false i = All-cons P x (distinct row_cmp xs) (All-head P x xs a) i
 
-keys_wide : (by : List Column) (kept : List (List Row)) → All Fields kept → All InRange (keys_in by kept)
+keys_wide : (by : List SourceColumn) (kept : List (List Row)) → All Fields kept → All InRange (keys_in by kept)
 keys_wide [] kept a = All-cons InRange [] [] (All-nil IsAnswerValue) (All-nil InRange)
 keys_wide (c ∷ by) kept a =
     all_distinct InRange (map (key_of (c ∷ by)) kept)
@@ -360,7 +361,7 @@ distinct_few (x ∷ xs) = here (list_any (is_same row_cmp x) xs) (distinct_few x
     here true i = omega (arith, i)
     here false i = omega (arith, i)
 
-keys_few : (by : List Column) (b : List Row) → count (keys_in by (map (λ r. r ∷ []) b)) ≤ max 1 (count b)
+keys_few : (by : List SourceColumn) (b : List Row) → count (keys_in by (map (λ r. r ∷ []) b)) ≤ max 1 (count b)
 unfolding weigh
 keys_few [] b = omega arith
 keys_few (c ∷ by) b =

@@ -4,7 +4,7 @@ use Rattle.std.specs.List.{All}
 use Rattle.std.proofs.lemmas.List.{length-map}
 use Rattle.values.specs.Row.{Row, row_cmp}
 use Rattle.values.specs.Bag.{distinct}
-use Rattle.values.specs.Condition.{Column}
+use Rattle.values.specs.Condition.{SourceColumn}
 use Rattle.values.specs.Relation.{ListItem, Grouped}
 use Rattle.values.specs.Resolved.{columns_of, items_of}
 use Rattle.column.specs.declared.batch.Side.{Side}
@@ -175,7 +175,7 @@ module _ (s : GroupState) (o o2 : PlainOperator) (log : Closed) (it : queue.Item
       room (Tick t) = tt
 
 -- GROUP BY
-group_at : (i : ℕ) (by : List Column) (items : List ListItem) (w : World) (ws : List ℕ) (ns : List plan.Node) (k : ℕ) (o o2 : PlainOperator) (log : Closed)
+group_at : (i : ℕ) (by : List SourceColumn) (items : List ListItem) (w : World) (ws : List ℕ) (ns : List plan.Node) (k : ℕ) (o o2 : PlainOperator) (log : Closed)
     (q : List (Entry Row)) (t b : List Row) (n : ℕ) (d e : Input) (it : queue.Item) (outs : List (Entry Row))
     → Stands w ws ns k (plan.Group i by items) o log (at_unary q t b n) d e → (f : IsFirst o log Left it) → outs_at_first o Left it ≡ Put outs
     → IsFinished o log Left it (change_at o.kind it (near_of o.state Left it)) o2 → StepMade w ws ns k (plan.Group i by items) (at_unary q t b n) outs o2 log
@@ -217,7 +217,7 @@ group_at i by items w ws ns k o o2 log q t b n d e it outs s f puts fin =
           (subst (StaysWithin (max 1 (tick_rows ns i) + max 1 (tick_rows ns i)) (count b)) out made.outs_few);
     })
 
-pub group_steps : (i : ℕ) (by : List Column) (items : List ListItem) → StepLaw (plan.Group i by items)
+pub group_steps : (i : ℕ) (by : List SourceColumn) (items : List ListItem) → StepLaw (plan.Group i by items)
 group_steps i by items w ws ns k o o2 log (at_window h m b q n) d e side it outs s f puts fin = absurd s.runs
 group_steps i by items w ws ns k o o2 log (at_join q r l m b n x y) d e side it outs s f puts fin = absurd s.runs
 group_steps i by items w ws ns k o o2 log (at_unary q t b n) d e Left it outs s f puts fin =
@@ -225,7 +225,7 @@ group_steps i by items w ws ns k o o2 log (at_unary q t b n) d e Left it outs s 
 group_steps i by items w ws ns k o o2 log (at_unary q t b n) d e Right it outs s f puts fin =
     untrue (subst (λ (held : State). usable held Right ≡ true) s.runs.state f.usable)
 
-pub group_may : (i : ℕ) (by : List Column) (items : List ListItem) → MayLaw (plan.Group i by items)
+pub group_may : (i : ℕ) (by : List SourceColumn) (items : List ListItem) → MayLaw (plan.Group i by items)
 group_may i by items w ws ns k o log (at_window h m b q n) d e side it s f = absurd s.runs
 group_may i by items w ws ns k o log (at_join q r l m b n x y) d e side it s f = absurd s.runs
 group_may i by items w ws ns k o log (at_unary q t b n) d e side it s f =

@@ -7,8 +7,8 @@ use Rattle.op_queue.specs.Entries.{Entry}
 use Rattle.op_queue.specs.Logs.{Closed}
 use Rattle.op_queue.specs.declared.item.Item.{Item}
 use Rattle.turn.specs.Turns.{Put, outs_at}
-use Rattle.turn.specs.declared.excerpts.Near.{Near}
-use Rattle.turn.specs.declared.excerpts.Near.TheVariants as near
+use Rattle.turn.specs.declared.excerpts.Excerpt.{Excerpt}
+use Rattle.turn.specs.declared.excerpts.Excerpt.TheVariants as near
 use Rattle.turn.specs.declared.kinds.Kind.{Kind}
 use Rattle.turn.specs.declared.kinds.Kind.TheVariants as kind
 use Rattle.operators.specs.Operators.{Belongs, PlainOperator}
@@ -20,11 +20,11 @@ use Rattle.plan.specs.Nodes.{Window, Select, Join, Project, Group, Distinct, ToS
 use Rattle.laws_dataflow.specs.Nets.{World, Cell, at_window, at_unary, at_join}
 use Rattle.laws_queries.specs.Runs.{Runs, WindowStands}
 
-pub record Puts (k : Kind) (side : Side) (i : Item) (n : Near) : Type 0 where
+pub record Puts (k : Kind) (side : Side) (i : Item) (n : Excerpt) : Type 0 where
   pub outs : List (Entry Row)
   pub is : outs_at k side i n ≡ Put outs
 
-range_puts : (side : Side) (i : Item) (n : Near) → Puts kind.RangeWindow side i n
+range_puts : (side : Side) (i : Item) (n : Excerpt) → Puts kind.RangeWindow side i n
 range_puts side i near.Nothing = record { outs = _; is = refl }
 range_puts side i (near.Leaving rows) = record { outs = _; is = refl }
 range_puts side i (near.Sliding rows) = record { outs = _; is = refl }
@@ -33,7 +33,7 @@ range_puts side i (near.Met rows) = record { outs = _; is = refl }
 range_puts side i (near.Groups rows) = record { outs = _; is = refl }
 range_puts side i (near.Lists lists) = record { outs = _; is = refl }
 
-slide_puts : (side : Side) (i : Item) (n : Near) → Puts kind.SlideWindow side i n
+slide_puts : (side : Side) (i : Item) (n : Excerpt) → Puts kind.SlideWindow side i n
 slide_puts side i near.Nothing = record { outs = _; is = refl }
 slide_puts side i (near.Leaving rows) = record { outs = _; is = refl }
 slide_puts side i (near.Sliding rows) = record { outs = _; is = refl }
@@ -42,7 +42,7 @@ slide_puts side i (near.Met rows) = record { outs = _; is = refl }
 slide_puts side i (near.Groups rows) = record { outs = _; is = refl }
 slide_puts side i (near.Lists lists) = record { outs = _; is = refl }
 
-latest_puts : (side : Side) (i : Item) (n : Near) → Puts kind.LatestWindow side i n
+latest_puts : (side : Side) (i : Item) (n : Excerpt) → Puts kind.LatestWindow side i n
 latest_puts side i near.Nothing = record { outs = _; is = refl }
 latest_puts side i (near.Leaving rows) = record { outs = _; is = refl }
 latest_puts side i (near.Sliding rows) = record { outs = _; is = refl }

@@ -178,10 +178,10 @@ found_stream tests o s h e = subst (λ z. of_stream tests z ≡ None) e h
 -- A REGISTRATION
 
 -- a source names no stream
-abbrev has_unknown : Machine → List syntax.Source → Bool
+abbrev has_unknown : Machine → List syntax.WrittenSource → Bool
 has_unknown m sources = list_any (λ s. is_none (number_in (catalog_of m.streams) s.stream)) sources
 
-abbrev numbers : Machine → List syntax.Source → List ℕ
+abbrev numbers : Machine → List syntax.WrittenSource → List ℕ
 numbers m sources = map (λ s. unwrap_or (number_in (catalog_of m.streams) s.stream) 0) sources
 
 -- the columns of a source are those of its stream
@@ -195,7 +195,7 @@ source_here : (m : Machine) (o : Option ℕ) → is_none o ≡ false
 source_here m None h = cc
 source_here m (Some n) h = sym (columns_by m.streams n)
 
-sources_here : (m : Machine) (sources : List syntax.Source) → has_unknown m sources ≡ false
+sources_here : (m : Machine) (sources : List syntax.WrittenSource) → has_unknown m sources ≡ false
     → columns_at m.streams (map (place_at m) (numbers m sources)) ≡ map (λ t. length t.columns) (tables (catalog_of m.streams) sources)
 sources_here m [] h = refl
 sources_here m (s ∷ sources) h =

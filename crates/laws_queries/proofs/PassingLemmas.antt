@@ -4,7 +4,7 @@ use Rattle.std.proofs.lemmas.Bool.{le-ltb}
 use Rattle.values.specs.Row.{Row, row_cmp}
 use Rattle.values.specs.Window.{Element, Window, window_rows}
 use Rattle.values.specs.Bag.{distinct}
-use Rattle.values.specs.Condition.{Column, Condition}
+use Rattle.values.specs.Condition.{SourceColumn, Condition}
 use Rattle.values.specs.Relation.{ListItem, Grouped}
 use Rattle.column.specs.declared.batch.Side.TheVariants.{Left, Right}
 use Rattle.op_queue.specs.Entries.{Entry}
@@ -75,13 +75,11 @@ window_state first win n b (state.Range s) held le h z = record {
   stands = (h.0, range_on n b s.held held le h.1);
   same = refl;
 }
-window_state first win n b (state.Slide s) held le h z =
-    let e : n + (b - n) ≡ b = omega (arith, le) in
-    record {
-      still = λ t x y. subst (λ v. Same (shown_by (state.Slide s) held) (window_rows first v t held)) (sym h.0) (slide_quiet first s n b held z h.1 t x y);
-      stands = (h.0, subst (λ u. Rattle.windows.specs.Laws.SlideStands first u s held) e (slide_on first s n (b - n) held (λ t x y. z t x (omega (arith, y, le))) h.1));
-      same = refl;
-    }
+window_state first win n b (state.Slide s) held le h z = record {
+  still = λ t x y. subst (λ v. Same (shown_by (state.Slide s) held) (window_rows first v t held)) (sym h.0) (slide_quiet first s n b held z h.1 t x y);
+  stands = (h.0, slide_on first s n b held le z h.1);
+  same = refl;
+}
 window_state first win n b (state.Latest s) held le h z =
     let e : n + (b - n) ≡ b = omega (arith, le) in
     record {
@@ -147,7 +145,7 @@ module _ (b : ℕ) (w : World) (ws : List ℕ) (ns : List plan.Node) (k : ℕ) (
         few = clears_within (most_rows ns i) (count t) b n q (waiting o2 log Left) clears st.few;
       }
 
-  project_passed : (i : ℕ) (columns : List Column) (t out : List Row) (q : List (Entry Row)) → Stands w ws ns k (plan.Project i columns) o log (at_unary q t out n) d e
+  project_passed : (i : ℕ) (columns : List SourceColumn) (t out : List Row) (q : List (Entry Row)) → Stands w ws ns k (plan.Project i columns) o log (at_unary q t out n) d e
       → Passed b w ws ns k (plan.Project i columns) o2 log (at_unary q t out n) (at_unary (waiting o2 log Left) t out b)
   project_passed i columns t out q st =
       let run : RunsProject columns o log q = st.runs in
@@ -163,7 +161,7 @@ module _ (b : ℕ) (w : World) (ws : List ℕ) (ns : List plan.Node) (k : ℕ) (
   touched_none : (s : Rattle.group.specs.Turns.GroupState) → o.state ≡ state.Groups s → s.touched ≡ []
   touched_none s is = subst (IsQuiet n b) is p.quiet
 
-  group_passed : (i : ℕ) (by : List Column) (items : List ListItem) (t out : List Row) (q : List (Entry Row)) → Stands w ws ns k (plan.Group i by items) o log (at_unary q t out n) d e
+  group_passed : (i : ℕ) (by : List SourceColumn) (items : List ListItem) (t out : List Row) (q : List (Entry Row)) → Stands w ws ns k (plan.Group i by items) o log (at_unary q t out n) d e
       → Passed b w ws ns k (plan.Group i by items) o2 log (at_unary q t out n) (at_unary (waiting o2 log Left) t out b)
   group_passed i by items t out q st =
       let run : RunsGroup by items o log q t out = st.runs in

@@ -9,7 +9,7 @@ use Rattle.std.proofs.Math.Seq.{get_or-append_seam}
 use Rattle.values.specs.Row.{Row, row_cmp}
 use Rattle.values.specs.Bag.{distinct, is_same}
 use Rattle.values.specs.Window.{Element, Window, input_of, shows}
-use Rattle.values.specs.Condition.{Column, Condition, field}
+use Rattle.values.specs.Condition.{SourceColumn, Condition, field}
 use Rattle.values.specs.Relation.{Shape, ListItem, Listed, Grouped, key_of, keys_of, group_row}
 use Rattle.values.specs.Answers.{StreamOperator, Resolved, shown_at}
 use Rattle.names.specs.Split.{all_conjuncts, join_keys, join_keys_of, own_of, remaining}
@@ -98,14 +98,14 @@ sources-rest : (top : ℕ) (cs : List Condition) → sources_of (rest_nodes top 
 sources-rest top [] = refl
 sources-rest top (c ∷ cs) = refl
 
-sources-end : (b : Bool) (f : Column → Column) (top : ℕ) (shape : Shape) (op : StreamOperator) (k : ℕ) → sources_of (end_nodes b (shape_node f top shape) op k) ≡ 0
+sources-end : (b : Bool) (f : SourceColumn → SourceColumn) (top : ℕ) (shape : Shape) (op : StreamOperator) (k : ℕ) → sources_of (end_nodes b (shape_node f top shape) op k) ≡ 0
 sources-end true f top (Listed columns) op k = refl
 sources-end true f top (Grouped by items) op k = refl
 sources-end false f top (Listed columns) op k = refl
 sources-end false f top (Grouped by items) op k = refl
 
 -- a plan has a source for each list of own conditions
-pub sources-plan : (own : List (List Condition)) (keys : List (List Key)) (rest : List Condition) (b : Bool) (f : Column → Column) (shape : Shape) (op : StreamOperator)
+pub sources-plan : (own : List (List Condition)) (keys : List (List Key)) (rest : List Condition) (b : Bool) (f : SourceColumn → SourceColumn) (shape : Shape) (op : StreamOperator)
     → sources_of (nodes_over own keys rest b (λ top. shape_node f top shape) op) ≡ length own
 sources-plan own keys rest b f shape op =
     let sources : List plan.Node = source_nodes 0 0 own in
@@ -193,8 +193,8 @@ module _ (by : (ℕ → ℕ) → plan.Node → ℕ) where
     pub joins : (f : ℕ → ℕ) (i j : ℕ) (ks : List Key) → by f (Join i j ks) ≤ f i * f j
 
   record Upper (b : ℕ) : Type 0 where
-    pub lists : (i : ℕ) (columns : List Column) → Keeps b (Project i columns)
-    pub groups : (i : ℕ) (columns : List Column) (items : List ListItem) → Keeps b (Group i columns items)
+    pub lists : (i : ℕ) (columns : List SourceColumn) → Keeps b (Project i columns)
+    pub groups : (i : ℕ) (columns : List SourceColumn) (items : List ListItem) → Keeps b (Group i columns items)
     pub onces : (i : ℕ) → Keeps b (Distinct i)
     pub roots : (i : ℕ) (op : StreamOperator) → Keeps b (ToStream i op)
 
@@ -241,7 +241,7 @@ module _ (by : (ℕ → ℕ) → plan.Node → ℕ) where
   rest-under most l b done top [] u = u
   rest-under most l b done top (c ∷ cs) u = under-one b done (Select top (c ∷ cs)) (keeps_select most l b top (c ∷ cs)) u
 
-  shape-keeps : (b : ℕ) → Upper b → (f : Column → Column) (top : ℕ) (shape : Shape) → Keeps b (shape_node f top shape)
+  shape-keeps : (b : ℕ) → Upper b → (f : SourceColumn → SourceColumn) (top : ℕ) (shape : Shape) → Keeps b (shape_node f top shape)
   shape-keeps b e f top (Listed columns) = e.lists top (map f columns)
   shape-keeps b e f top (Grouped columns items) = e.groups top _ _
 
@@ -273,7 +273,7 @@ module _ (by : (ℕ → ℕ) → plan.Node → ℕ) where
       here (t ∷ ts) h = joins-under most (length (source_nodes 0 0 own)) l some most first (length (source_nodes 0 0 own)) t ts keys long (λ i k. under-at most first low i) h.1 low
 
   nodes-under : (most b : ℕ) → Lower most → 1 ≤ most → Upper b
-      → (own : List (List Condition)) (keys : List (List Key)) (rest : List Condition) (is_distinct : Bool) (f : Column → Column) (shape : Shape) (op : StreamOperator)
+      → (own : List (List Condition)) (keys : List (List Key)) (rest : List Condition) (is_distinct : Bool) (f : SourceColumn → SourceColumn) (shape : Shape) (op : StreamOperator)
       → times most most (length keys) ≤ b
       → Under b (rows_of by [] (nodes_over own keys rest is_distinct (λ top. shape_node f top shape) op))
   nodes-under most b l some e own keys rest is_distinct f shape op few =
@@ -394,7 +394,7 @@ few_joined ks (l ∷ ls) rs =
     let first : length (joined ks (l ∷ ls) rs) ≡ length (flat_map (pair ks l) rs) + length (joined ks ls rs) = length-append (flat_map (pair ks l) rs) (joined ks ls rs) in
     omega (arith, first, few_pairs ks l rs, few_joined ks ls rs, suc-mul (length ls) (length rs))
 
-few_keyed : (columns : List Column) (kept : List (List Row)) → length (keys_of columns kept) ≤ max 1 (length kept)
+few_keyed : (columns : List SourceColumn) (kept : List (List Row)) → length (keys_of columns kept) ≤ max 1 (length kept)
 few_keyed [] kept = omega arith
 few_keyed (c ∷ columns) kept = omega (arith, few_distinct (map (key_of (c ∷ columns)) kept), length-map kept (key_of (c ∷ columns)))
 
@@ -424,7 +424,7 @@ few_grouped (Grouped columns items) rows =
     let kept : List (List Row) = map (λ (r : Row). r ∷ []) rows in
     omega (arith, length-map (keys_of columns kept) (group_row columns items kept), few_keyed columns kept, length-map rows (λ (r : Row). r ∷ []))
 
-few_listed : (columns : List Column) (rows : List Row) → length (plan.shaped_rows (Listed columns) rows) ≤ length rows
+few_listed : (columns : List SourceColumn) (rows : List Row) → length (plan.shaped_rows (Listed columns) rows) ≤ length rows
 few_listed columns rows = omega (arith, length-map (map (λ (r : Row). r ∷ []) rows) (λ (rows : List Row). map (field rows) columns), length-map rows (λ (r : Row). r ∷ []))
 
 module _ (most : ℕ) (ws : List (List Row)) (short : (s : ℕ) → length (get_or ws s []) ≤ most) where

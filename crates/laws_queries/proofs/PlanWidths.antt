@@ -6,7 +6,7 @@ use Rattle.std.proofs.lemmas.List.{length-map}
 use Rattle.std.proofs.lemmas.List.FromFn.{length-map-range_with_len}
 use Rattle.std.proofs.lemmas.List.Sums.{sum_by-cons}
 use Rattle.values.specs.declared.TheConstants.{MAX_COLUMNS}
-use Rattle.values.specs.Condition.{Column, Operand, Field, Number, Condition, Compared, Not, And, Or}
+use Rattle.values.specs.Condition.{SourceColumn, Operand, Field, Number, Condition, Compared, Not, And, Or}
 use Rattle.values.specs.Relation.{Shape, Listed, Grouped}
 use Rattle.values.specs.Answers.{StreamOperator, Resolved}
 use Rattle.names.specs.Split.{all_conjuncts, columns_of, conjuncts, is_own, is_some_column, join_keys, join_keys_of, own, own_of, remaining, remains}
@@ -113,7 +113,7 @@ fits_same vs done all n h (Window s) b f = f
 fits_same vs done all n h (Select i []) b f = f
 fits_same vs done all n h (Select i (c ∷ cs)) b f = (subst (λ w. AllByRecursion (IsOver w) (c ∷ cs)) (sym (h i b)) f.0, f.1)
 fits_same vs done all n h (Join i j keys) b f = f
-fits_same vs done all n h (Project i columns) b f = subst (λ w. AllByRecursion (λ (c : Column). c.column < w) columns) (sym (h i b)) f
+fits_same vs done all n h (Project i columns) b f = subst (λ w. AllByRecursion (λ (c : SourceColumn). c.column < w) columns) (sym (h i b)) f
 fits_same vs done all n h (Group i by items) b f = f
 fits_same vs done all n h (Distinct i) b f = omega (arith, f, h i b)
 fits_same vs done all n h (ToStream i op) b f = f
@@ -196,13 +196,13 @@ short_filter n p (c ∷ cs) h = here (p c) h.0 (short_tail n p cs h.1) (each-fil
     here true l s f = (l, f)
     here false l s f = s
 
-moved_truths : (f : Column → Column) (c : Condition) → truths_needed (moved f c) ≡ truths_needed c
+moved_truths : (f : SourceColumn → SourceColumn) (c : Condition) → truths_needed (moved f c) ≡ truths_needed c
 moved_truths f (Compared a how b) = refl
 moved_truths f (Not c) = moved_truths f c
 moved_truths f (And c d) = omega (arith, moved_truths f c, moved_truths f d)
 moved_truths f (Or c d) = omega (arith, moved_truths f c, moved_truths f d)
 
-short_map : (n : ℕ) (f : Column → Column) (cs : List Condition) → AreShort n cs → AreShort n (map (moved f) cs)
+short_map : (n : ℕ) (f : SourceColumn → SourceColumn) (cs : List Condition) → AreShort n cs → AreShort n (map (moved f) cs)
 short_map n f [] h = tt
 short_map n f (c ∷ cs) h =
     let l : truths_needed c ≤ n = h.0 in (
@@ -211,7 +211,7 @@ short_map n f (c ∷ cs) h =
     )
 
 -- columns that are moved to the one row that goes between operators
-module _ (f : Column → Column) (w : ℕ) (one : (k : Column) → (f k).source ≡ 0) where
+module _ (f : SourceColumn → SourceColumn) (w : ℕ) (one : (k : SourceColumn) → (f k).source ≡ 0) where
   operand_over : (a : Operand) → AllByRecursion (λ k. (f k).column < w) (Rattle.names.specs.Split.columns_of_operand a) → OperandIsOver w (operand_moved f a)
   operand_over (Field k) h = (one k, h.0)
   operand_over (Number z) h = tt
@@ -386,7 +386,7 @@ end_fit all done false shape op n e f some m =
 
 shape_fits : (vs done : List ℕ) (top : ℕ) (shape : Shape) → get_or done top 0 ≡ sum vs → ShapeInScope vs shape → IsNarrowShape shape → NodeFits vs done (shape_node (placed vs) top shape)
 shape_fits vs done top (Listed columns) is scope narrow =
-    each-map (λ (c : Column). c.column < get_or done top 0) (placed vs) columns
+    each-map (λ (c : SourceColumn). c.column < get_or done top 0) (placed vs) columns
     (each-weaken (InScope vs) (λ c. offset vs c.source c.column < get_or done top 0) (λ c i. omega (arith, is, offset-below vs c.source c.column i.source i.column)) columns scope)
 shape_fits vs done top (Grouped by items) is scope narrow = omega (arith, narrow.0, length-map by (placed vs))
 
@@ -498,7 +498,7 @@ rest_inner : (top : ℕ) (rest : List Condition) → AllByRecursion IsInner (res
 rest_inner top [] = tt
 rest_inner top (c ∷ cs) = (tt, tt)
 
-shape_inner : (f : Column → Column) (top : ℕ) (shape : Shape) → IsInner (shape_node f top shape)
+shape_inner : (f : SourceColumn → SourceColumn) (top : ℕ) (shape : Shape) → IsInner (shape_node f top shape)
 shape_inner f top (Listed columns) = tt
 shape_inner f top (Grouped by items) = tt
 
@@ -506,7 +506,7 @@ end_but : (b : Bool) (shape : plan.Node) (op : StreamOperator) (n : ℕ) → IsI
 end_but true shape op n h = (h, (tt, (tt, tt)))
 end_but false shape op n h = (h, (tt, tt))
 
-nodes_but : (own : List (List Condition)) (keys : List (List Key)) (rest : List Condition) (b : Bool) (f : Column → Column) (shape : Shape) (op : StreamOperator)
+nodes_but : (own : List (List Condition)) (keys : List (List Key)) (rest : List Condition) (b : Bool) (f : SourceColumn → SourceColumn) (shape : Shape) (op : StreamOperator)
     → ButLast (nodes_over own keys rest b (λ top. shape_node f top shape) op)
 nodes_but own keys rest b f shape op =
     let ss : List plan.Node = source_nodes 0 0 own in

@@ -13,10 +13,10 @@ use Rattle.std.proofs.lemmas.Map.Views.{All-values_from_lookup}
 use Rattle.lane_kernels.specs.Lanes.{IsWithin}
 use Rattle.values.specs.Row.{Row, value_at, value_cmp, same_row}
 use Rattle.values.specs.Value.{IsAnswerValue, answer_max}
-use Rattle.values.specs.Condition.{Column, field}
+use Rattle.values.specs.Condition.{SourceColumn, field}
 use Rattle.values.specs.Resolved.{column_of}
 use Rattle.values.specs.declared.resolved.ListItem.{ListItem}
-use Rattle.values.specs.declared.resolved.ListItem.TheVariants.{Key, CountAll, Count, Sum, Min, Max}
+use Rattle.values.specs.declared.resolved.ListItem.TheVariants.{Key, CountAll, Of}
 use Rattle.values.proofs.Order.{value_order}
 use Rattle.op_queue.specs.Signed.{weigh}
 use Rattle.group.specs.Cells.{held_cmp, Values, TallyState, number_of, keeps, CellState, cell_zero, TallyRoom, CellRoom}
@@ -35,7 +35,7 @@ value_in [] k a = tt
 value_in (v ∷ r) zero a = All-head IsAnswerValue v r a
 value_in (v ∷ r) (suc k) a = value_in r k (All-tail IsAnswerValue v r a)
 
-pub field_in : (r : Row) (c : Column) → All IsAnswerValue r → IsAnswerValue (field (r ∷ []) c)
+pub field_in : (r : Row) (c : SourceColumn) → All IsAnswerValue r → IsAnswerValue (field (r ∷ []) c)
 field_in r c a = here c.source
   where
     here : (s : ℕ) → IsAnswerValue (value_at (get_or (r ∷ []) s []) c.column)
@@ -45,10 +45,7 @@ field_in r c a = here c.source
 pub number_in : (i : ListItem) (r : Row) → All IsAnswerValue r → IsAnswerValue (number_of i r)
 number_in (Key k) r a = tt
 number_in CountAll r a = tt
-number_in (Count c) r a = field_in r (column_of c) a
-number_in (Sum c) r a = field_in r (column_of c) a
-number_in (Min c) r a = field_in r (column_of c) a
-number_in (Max c) r a = field_in r (column_of c) a
+number_in (Of g c) r a = field_in r (column_of c) a
 
 -- WEIGHTS OF NUMBERS
 abbrev pub InRange : Row → Type 0

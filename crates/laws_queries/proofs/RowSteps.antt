@@ -5,7 +5,7 @@ use Rattle.std.proofs.lemmas.List.{length-map}
 use Rattle.std.proofs.lemmas.List.Elements.{All-filter, All-map}
 use Rattle.values.specs.Row.{Row, value_at}
 use Rattle.values.specs.Value.{IsAnswerValue}
-use Rattle.values.specs.Condition.{Column, Condition}
+use Rattle.values.specs.Condition.{SourceColumn, Condition}
 use Rattle.values.specs.Relation.{Listed}
 use Rattle.lane_kernels.specs.Steps.{StepsFit}
 use Rattle.lane_kernels.specs.declared.condition.Step.{Step}
@@ -141,7 +141,7 @@ project_fits : (places : List ℕ) (w : ℕ) (i : Item) (rest : List (Entry Row)
 project_fits places w (Rows t b) rest some h k = subst (λ n. All (λ j. j < n) places) (sym (batch_width w t b rest (batch_some t b some) h)) k
 project_fits places w (Tick t) rest some h k = tt
 
-pub project_may : (x : ℕ) (columns : List Column) → MayLaw (plan.Project x columns)
+pub project_may : (x : ℕ) (columns : List SourceColumn) → MayLaw (plan.Project x columns)
 project_may x columns w ws ns k o log (at_window h e b q n) d z side i s f = absurd s.runs
 project_may x columns w ws ns k o log (at_join q r l m b n y p) d z side i s f = absurd s.runs
 project_may x columns w ws ns k o log (at_unary q t b n) d z side i s f =
@@ -158,7 +158,7 @@ project_may x columns w ws ns k o log (at_unary q t b n) d z side i s f =
     }
 
 -- as many rows are listed
-listed_count : (columns : List Column) (rows : List Row) → weigh (λ r. 1) (shaped_rows (Listed columns) rows) ≡ weigh (λ r. 1) rows
+listed_count : (columns : List SourceColumn) (rows : List Row) → weigh (λ r. 1) (shaped_rows (Listed columns) rows) ≡ weigh (λ r. 1) rows
 unfolding weigh
 listed_count columns [] = refl
 listed_count columns (r ∷ rows) = ap (λ n. 1 + n) (listed_count columns rows)
@@ -202,7 +202,7 @@ project_wide places w (Rows t b) rest within h =
     (All-map (λ s. IsRow (length places) s.1) (projected_row places) b (λ j d lt. listed_row places w (get_or b j d).1 within (rows j d lt)))
 project_wide places w (Tick t) rest within h = tt
 
-pub project_steps : (x : ℕ) (columns : List Column) → StepLaw (plan.Project x columns)
+pub project_steps : (x : ℕ) (columns : List SourceColumn) → StepLaw (plan.Project x columns)
 project_steps x columns w ws ns k o o2 log (at_window h e b q n) d z side i outs s f put g = absurd s.runs
 project_steps x columns w ws ns k o o2 log (at_join q r l m b n y p) d z side i outs s f put g = absurd s.runs
 project_steps x columns w ws ns k o o2 log (at_unary q t b n) d z side i outs s f put g =

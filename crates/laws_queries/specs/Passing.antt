@@ -1,6 +1,6 @@
 -- A query passes instants at which it has nothing to do: its operators' states stay, and the ticks
 -- of these instants leave its windows' queues.
-use Rattle.std.specs.Prelude.{ℕ, zero, suc, ◌≡◌, ◌+◌, ◌-◌, ◌<◌, ◌≤◌, false, List, [], ◌∷◌}
+use Rattle.std.specs.Prelude.{ℕ, zero, suc, ◌≡◌, ◌+◌, ◌-◌, ◌<◌, false, List, [], ◌∷◌}
 use Rattle.std.specs.Prelude.{◌++◌, length}
 use Rattle.std.specs.List.{filter}
 use Rattle.values.specs.Row.{Row}
@@ -11,7 +11,7 @@ use Rattle.op_queue.specs.Logs.{Closed}
 use Rattle.join.specs.Turns.{with_marks}
 use Rattle.to_stream.specs.Turns as root
 use Rattle.windows.specs.Range.{is_past}
-use Rattle.windows.specs.Slide.{moves}
+use Rattle.windows.specs.Slide.{Stays}
 use Rattle.operators.specs.Inboxes.{IsInboxWithin, ReadsOn, entries_in, is_fed}
 use Rattle.operators.specs.Operators.{PlainOperator, waiting}
 use Rattle.operators.specs.declared.inboxes.Inbox.{Inbox}
@@ -23,11 +23,11 @@ use Rattle.laws_queries.specs.Queries.{IsRunning, log_at, operator_at}
 use Rattle.laws_queries.specs.Rooms.{IsBounded}
 
 -- NOTHING IS TO BE DONE from the instant n to below b: at the last of these instants no row has
--- left a window of the last instants yet; none of them is a multiple of a Slide; no group was
--- touched since the last tick
+-- left a window of the last instants yet; a Slide has no multiple among them, or shows all its rows,
+-- none of which is past at the last of them; no group was touched since the last tick
 abbrev pub IsQuiet : ℕ → ℕ → State → Type 0
 IsQuiet n b (state.Range s) = filter (is_past s.span (b - 1)) s.held ≡ []
-IsQuiet n b (state.Slide s) = (t : ℕ) → n ≤ t → t < b → moves s.step t ≡ false
+IsQuiet n b (state.Slide s) = Stays n b s
 IsQuiet n b (state.Latest s) = Unit {0}
 IsQuiet n b state.Nothing = Unit {0}
 IsQuiet n b (state.Join s) = Unit {0}

@@ -2,7 +2,7 @@
 -- of a net, which also have the bags that no code holds.
 use Rattle.std.specs.Prelude.{ℕ, ◌≡◌, ◌<◌, Bool, false, List, [], ◌∷◌, length}
 use Rattle.values.specs.Row.{Row}
-use Rattle.values.specs.Condition.{Column, Condition}
+use Rattle.values.specs.Condition.{SourceColumn, Condition}
 use Rattle.values.specs.Relation.{ListItem}
 use Rattle.values.specs.Resolved.{columns_of, items_of}
 use Rattle.values.specs.declared.resolved.ListItem as listed
@@ -71,7 +71,7 @@ pub record RunsSelect (cs : List Condition) (o : PlainOperator) (log : Closed)
   pub tell : Tell steps cs
   pub queue : q ≡ waiting o log Left
 
-pub record RunsProject (columns : List Column) (o : PlainOperator) (log : Closed)
+pub record RunsProject (columns : List SourceColumn) (o : PlainOperator) (log : Closed)
     (q : List (Entry Row)) : Type 0 where
   pub places : List ℕ
   pub kind : o.kind ≡ kind.Project places
@@ -91,8 +91,8 @@ KeepsFew s = (k : Row) → AreLean s.group.items
     (cell_of (length s.group.items) (held k) s.cells).tallies
 
 -- GROUP: the state has taken the one bag and put out the other
-pub record RunsGroup (by : List Column) (items : List ListItem) (o : PlainOperator) (log : Closed)
-    (q : List (Entry Row)) (taken shown : List Row) : Type 0 where
+pub record RunsGroup (by : List SourceColumn) (items : List ListItem) (o : PlainOperator)
+    (log : Closed) (q : List (Entry Row)) (taken shown : List Row) : Type 0 where
   pub held : GroupState
   pub kind : o.kind ≡ kind.Group held.group
   pub state : o.state ≡ state.Groups held

@@ -36,8 +36,8 @@ use Rattle.leases.specs.Asked.{HasOperatorAt}
 use Rattle.leases.specs.Readers.{next_for, next_in, reader, idle_slot, idle_slots, is_idle_at, with_update, with_updates, with_slots}
 use Rattle.leases.specs.Shown.{engine_in, world_in}
 use Rattle.leases.specs.Sound.{IsSound}
-use Rattle.leases.specs.declared.reader.Reader.{Reader}
-use Rattle.leases.specs.declared.state.State.{State}
+use Rattle.leases.specs.declared.reader.WindowReader.{WindowReader}
+use Rattle.leases.specs.declared.state.EngineState.{EngineState}
 use Rattle.leases.proofs.ListedLemmas.{resting_listed}
 use Rattle.leases.proofs.ReaderLemmas.{resting_rests}
 use Rattle.leases.proofs.UpdateLemmas.{same_slots}
@@ -73,7 +73,7 @@ resting_is e n k x i = by_test (is_idle_at e n k)
         let at = numbered e n k x here in
         ap (λ z. slot_of e z x.operator) at.0 ∙ ap (slot_of e n) at.1 ∙ here
 
-slots_are : (e : PlainEngine) (s : ℕ) (rs : List Reader) (x : Slot) → IsIn (idle_slots e s rs) x → slot_of e x.query x.operator ≡ Some x
+slots_are : (e : PlainEngine) (s : ℕ) (rs : List WindowReader) (x : Slot) → IsIn (idle_slots e s rs) x → slot_of e x.query x.operator ≡ Some x
 slots_are e s [] x i = absurd i
 slots_are e s (r ∷ rs) x i = ⊎_elim
     (λ j. by_test (r.stream == s)
@@ -83,12 +83,12 @@ slots_are e s (r ∷ rs) x i = ⊎_elim
     (in_either (cond (r.stream == s) (idle_slot e r.query r.operator) []) (idle_slots e s rs) x i)
 
 -- that of a window that rests is among them
-slot_comes : (e : PlainEngine) (s n k : ℕ) (rs : List Reader) (x : Slot) → IsIn rs (reader s n k) → is_idle_at e n k ≡ true → slot_of e n k ≡ Some x → IsIn (idle_slots e s rs) x
+slot_comes : (e : PlainEngine) (s n k : ℕ) (rs : List WindowReader) (x : Slot) → IsIn rs (reader s n k) → is_idle_at e n k ≡ true → slot_of e n k ≡ Some x → IsIn (idle_slots e s rs) x
 slot_comes e s n k [] x i r is = absurd i
 slot_comes e s n k (y ∷ rs) x (inl same) r is =
     let here : IsIn (cond (s == s) (idle_slot e n k) []) x = let t : (s == s) ≡ true = eq-eqb s s refl in rw (t, r, is) (inl refl) in
     in_left (cond (y.stream == s) (idle_slot e y.query y.operator) []) (idle_slots e s rs) x
-    (subst (λ (z : Reader). IsIn (cond (z.stream == s) (idle_slot e z.query z.operator) []) x) (sym same) here)
+    (subst (λ (z : WindowReader). IsIn (cond (z.stream == s) (idle_slot e z.query z.operator) []) x) (sym same) here)
 slot_comes e s n k (y ∷ rs) x (inr i) r is = in_right (cond (y.stream == s) (idle_slot e y.query y.operator) []) (idle_slots e s rs) x (slot_comes e s n k rs x i r is)
 
 -- WHAT IS TOLD: of each operator the slot is the one before or the one after, and it is the one before of those alone that are told still
@@ -152,7 +152,7 @@ module _ (e : PlainEngine) (s : ℕ) (at : ℤ) where
   each_told [] slots are p = equal_slots p.table (slot_of (closed_over e s at)) slots (λ n k. ⊎_elim (λ done. sym done) (λ left. absurd left.1.1.0) (p.each n k)) p.has
   each_told (x ∷ todo) slots are p = each_told todo (with_update (closed_over e s at) x slots) (λ y i. are y (inr i)) (one_told x todo slots (are x (inl refl)) p)
 
-module _ (e : PlainEngine) (s : ℕ) (at : ℤ) (g : GoodEngine e) (h : IsHeartbeat e s at) (rs : List Reader) where
+module _ (e : PlainEngine) (s : ℕ) (at : ℤ) (g : GoodEngine e) (h : IsHeartbeat e s at) (rs : List WindowReader) where
   pub all_asked : AllByRecursion (λ slot. HasOperatorAt (closed_over e s at) slot.query slot.operator) (idle_slots e s rs)
   all_asked = all_of (λ slot. HasOperatorAt (closed_over e s at) slot.query slot.operator) (idle_slots e s rs)
       (λ x i.
@@ -182,13 +182,13 @@ module _ (e : PlainEngine) (s : ℕ) (at : ℤ) (g : GoodEngine e) (h : IsHeartb
         (each_told e s at (idle_slots e s rs) e.slots (λ x i. slots_are e s rs x i) start) (heartbeat_good e s at g h).slots
 
 -- THE CALL: rows that the stream's heartbeat closes, the readers' slots, the streams closed, the slots told
-module _ (s : State) (streams : List Stream) (n : ℕ) (at : ℤ) (h : IsSound s) (beats : IsHeartbeat (engine_in s) n at) (closes : streams ≡ change n (closed_to at) s.streams) where
+module _ (s : EngineState) (streams : List Stream) (n : ℕ) (at : ℤ) (h : IsSound s) (beats : IsHeartbeat (engine_in s) n at) (closes : streams ≡ change n (closed_to at) s.streams) where
   pub readers_asked : (slots : List Slot) → slots ≡ idle_slots (engine_in s) n s.readers.items → AllByRecursion (λ slot. HasOperatorAt (engine_in (at_streams s streams)) slot.query slot.operator) slots
   readers_asked slots are =
       subst (λ z. AllByRecursion (λ slot. HasOperatorAt (engine_in (at_streams s z)) slot.query slot.operator) slots) (sym closes)
       (subst (AllByRecursion (λ slot. HasOperatorAt (closed_over (engine_in s) n at) slot.query slot.operator)) (sym are) (all_asked (engine_in s) n at h.good beats s.readers.items))
 
-  module _ (slots : List Slot) (are : slots ≡ idle_slots (engine_in s) n s.readers.items) (s2 : State) (tells : s2 ≡ with_slots (at_streams s streams) (with_updates (engine_in (at_streams s streams)) slots s.slots)) where
+  module _ (slots : List Slot) (are : slots ≡ idle_slots (engine_in s) n s.readers.items) (s2 : EngineState) (tells : s2 ≡ with_slots (at_streams s streams) (with_updates (engine_in (at_streams s streams)) slots s.slots)) where
     all_listed : (m k : ℕ) → IsResting (engine_in s) n m k → IsIn s.readers.items (reader n m k)
     all_listed m k is = subst (λ rs. IsIn rs (reader n m k)) (sym h.readers) (resting_listed (engine_in s) n m k is)
 
@@ -219,7 +219,7 @@ module _ (s : State) (streams : List Stream) (n : ℕ) (at : ℤ) (h : IsSound s
     unfolding heartbeat_step
     beats_does =
         ap (λ o. unless o (world_in s) tt (record (world_in s) { machine = after (engine_in s).machine (Heartbeat n at) 0 })) beats.accepted
-        ∙ sym (ap (λ (z : State). (Ok tt, world_in z)) state_is)
+        ∙ sym (ap (λ (z : EngineState). (Ok tt, world_in z)) state_is)
 
 -- A HEARTBEAT THAT IS REFUSED
 abbrev step_at : World → World → Option Fault → Step ⊤
@@ -279,12 +279,12 @@ module _ (w new : World) (es : List Element) where
   looked view first TooManyLeases h = looked_step first TooManyLeases h
   looked view first OutOfMemory h = (refl, short_step first h)
 
-refused_at : {A : Type 0} (view : A → List Element) (s : State) (n : ℕ) (at : ℤ) (f : Fault) → Looks view (closing_in s.streams n at) (Err f) → Does (λ (u : ⊤). u) (world_in s) (heartbeat_step (world_in s) n at) (Err f) (world_in s)
+refused_at : {A : Type 0} (view : A → List Element) (s : EngineState) (n : ℕ) (at : ℤ) (f : Fault) → Looks view (closing_in s.streams n at) (Err f) → Does (λ (u : ⊤). u) (world_in s) (heartbeat_step (world_in s) n at) (Err f) (world_in s)
 unfolding closing_in heartbeat_step
 refused_at view s n at f h =
     looked (world_in s) (record (world_in s) { machine = after (engine_in s).machine (Heartbeat n at) 0 }) (closing_at s.streams n at) view (first_fault (machine_of s.streams) (Heartbeat n at)) f h
 
-pub heartbeat_refused : {A : Type 0} (view : A → List Element) (s : State) (n : ℕ) (at given : ℤ) (r : Result ⊤ Fault) (f : Fault) → given ≡ at → IsErrAnd r (λ g. g ≡ f) → Looks view (closing_in s.streams n given) (Err f)
+pub heartbeat_refused : {A : Type 0} (view : A → List Element) (s : EngineState) (n : ℕ) (at given : ℤ) (r : Result ⊤ Fault) (f : Fault) → given ≡ at → IsErrAnd r (λ g. g ≡ f) → Looks view (closing_in s.streams n given) (Err f)
     → Does (λ (u : ⊤). u) (world_in s) (heartbeat_step (world_in s) n at) r (world_in s)
 heartbeat_refused view s n at given (Ok u) f same e h = absurd e
 heartbeat_refused view s n at given (Err g) f same e h =
@@ -292,7 +292,7 @@ heartbeat_refused view s n at given (Err g) f same e h =
     (subst (λ z. Does (λ (u : ⊤). u) (world_in s) (heartbeat_step (world_in s) n z) (Err f) (world_in s)) same (refused_at view s n given f h))
 
 -- and one for which memory is wanted
-pub heartbeat_lacked : (s : State) (streams : List Stream) (n : ℕ) (at : ℤ) → first_fault (machine_of s.streams) (Heartbeat n at) ≡ None → streams ≡ s.streams
+pub heartbeat_lacked : (s : EngineState) (streams : List Stream) (n : ℕ) (at : ℤ) → first_fault (machine_of s.streams) (Heartbeat n at) ≡ None → streams ≡ s.streams
     → Does (λ (u : ⊤). u) (world_in s) (heartbeat_step (world_in s) n at) (Err OutOfMemory) (world_in (at_streams s streams))
 unfolding heartbeat_step
 heartbeat_lacked s streams n at ok same =

@@ -18,7 +18,7 @@ use Rattle.query_runtime.specs.Turns.{IsBeginning}
 use Rattle.laws_engine.specs.Accepted.{IsBegun, IsPlanOfText, newest}
 use Rattle.laws_engine.proofs.FoundLemmas.{plan_of_text}
 use Rattle.leases.specs.Views.{place_of}
-use Rattle.leases.specs.declared.registered.Place.{Place}
+use Rattle.leases.specs.declared.registered.SourcePlace.{SourcePlace}
 
 map_twice : {X Y Z : Type 0} (f : Y → Z) (g : X → Y) (xs : List X) → map (λ x. f (g x)) xs ≡ map f (map g xs)
 map_twice f g [] = refl
@@ -28,7 +28,7 @@ streams_again : (m : Machine) (ns : List ℕ) → map (λ (p : machine.Place). p
 streams_again m [] = refl
 streams_again m (n ∷ ns) = ap (λ l. n ∷ l) (streams_again m ns)
 
-module _ (m : Machine) (name : List ℕ) (plan : Plan) (places : List Place) (first : ℕ) (at : map place_of places ≡ map (place_at m) plan.streams.items) (begins : first ≡ first_for m.streams (map (place_at m) plan.streams.items)) where
+module _ (m : Machine) (name : List ℕ) (plan : Plan) (places : List SourcePlace) (first : ℕ) (at : map place_of places ≡ map (place_at m) plan.streams.items) (begins : first ≡ first_for m.streams (map (place_at m) plan.streams.items)) where
   abbrev made : List machine.Place → ℕ → Registered
   made ps n = record { name = name; meaning = resolved_of plan.meaning; nodes = nodes_of plan.nodes.items; measures = plan.measures.items; places = ps; first = n; start = n; earlier = []; taken = 0; ever_taken = 0; is_dropped = false }
 

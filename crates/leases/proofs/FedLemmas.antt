@@ -17,8 +17,8 @@ use Rattle.operators.specs.declared.inboxes.Inbox.TheVariants.{First, Between}
 use Rattle.operators.specs.declared.states.State.{State}
 use Rattle.operators.specs.declared.states.State.TheVariants as state
 use Rattle.turn.specs.Turns.{Answered, Outs, Put, outs_at, root_outs}
-use Rattle.turn.specs.declared.excerpts.Near.{Near}
-use Rattle.turn.specs.declared.excerpts.Near.TheVariants as near
+use Rattle.turn.specs.declared.excerpts.Excerpt.{Excerpt}
+use Rattle.turn.specs.declared.excerpts.Excerpt.TheVariants as near
 use Rattle.turn.specs.declared.kinds.Kind.{Kind}
 use Rattle.turn.specs.declared.kinds.Kind.TheVariants as kind
 
@@ -43,7 +43,7 @@ abbrev pub StartAt : ℕ → Outs → Type 0
 StartAt t (Put es) = StartsAt t es
 StartAt t (Answered rows) = Unit {0}
 
-root_starts : (i : Item) (n : Near) → StartAt (item_instant i) (root_outs i n)
+root_starts : (i : Item) (n : Excerpt) → StartAt (item_instant i) (root_outs i n)
 root_starts i (near.Lists lists) = tt
 root_starts i n = tt
 

@@ -16,7 +16,7 @@ use Rattle.leases.specs.Shown.{engine_in}
 use Rattle.leases.specs.Sound.{IsSound}
 use Rattle.leases.specs.Told.{MayTellBoth}
 use Rattle.leases.specs.Turns.{HasPutOut, IsOut, lease_of_parts}
-use Rattle.leases.specs.declared.state.State.{State}
+use Rattle.leases.specs.declared.state.EngineState.{EngineState}
 use Rattle.leases.proofs.FinishLemmas as plain
 use Rattle.leases.proofs.FinishSoundLemmas.{out_with, sound_back, sound_broken}
 use Rattle.leases.proofs.LeaveLemmas.{fewer}
@@ -24,7 +24,7 @@ use Rattle.leases.proofs.LookLemmas.{asks_on}
 use Rattle.leases.proofs.StandLemmas.{both_stand}
 
 -- ONE CALL AFTER THE OTHER gives nothing
-pub gives_on : (a b c : State) → GivesNothing a b → GivesNothing b c → GivesNothing a c
+pub gives_on : (a b c : EngineState) → GivesNothing a b → GivesNothing b c → GivesNothing a c
 gives_on a b c r t = record { undropped = t.undropped ∙ r.undropped; readers = t.readers ∙ r.readers; leases = λ g i. r.leases g (t.leases g i) }
 
 -- IT IS THERE, of an operator whose numbers are spelt in two ways
@@ -40,7 +40,7 @@ pub may_apply : (e : PlainEngine) (d : Parts) → GoodEngine e → IsOutIn e d �
 may_apply e d g out done = plain.may_apply_in e d out.0 out.1.0 g out.1.1 done
 
 -- IT HAS BROKEN its query
-pub broken_sound : (old new : State) (d : Lease) → IsSound old → IsOutAsIn (engine_in old) d → IsBroken (engine_in old) d.query (engine_in new) → Forgets d.query old new → IsSound new
+pub broken_sound : (old new : EngineState) (d : Lease) → IsSound old → IsOutAsIn (engine_in old) d → IsBroken (engine_in old) d.query (engine_in new) → Forgets d.query old new → IsSound new
 broken_sound old new d s out is r =
     sound_broken old new (engine_in old).leases old.slots d out.0 out.1.0 s s.good out.1.1 r (fewer (λ l. not (l.query == d.query)) (engine_in old).leases) (is out.1.0 out.1.1.of.running)
 
@@ -140,7 +140,7 @@ module _ (e : PlainEngine) (d : Lease) (n k lease : ℕ) (s : Slot) (above : Opt
   has_come_back new h = (out.0, (out.1.0, (took.0, (out.1.1, comes new h))))
 
 -- so both may be told
-pub may_tell : (e : PlainEngine) (d : Lease) (n k lease : ℕ) (s : Slot) (above : Option Slot) (m : State) → GoodEngine e → IsOutAsIn e d → AreSteps e d n k lease s above (engine_in m) → MayTellBoth m s above
+pub may_tell : (e : PlainEngine) (d : Lease) (n k lease : ℕ) (s : Slot) (above : Option Slot) (m : EngineState) → GoodEngine e → IsOutAsIn e d → AreSteps e d n k lease s above (engine_in m) → MayTellBoth m s above
 may_tell e d n k lease s above m good out st = record {
   here = tells_here e d n k lease s above (engine_in m) good out st;
   over = tells_over e d n k lease s above (engine_in m) good out st;
@@ -167,9 +167,9 @@ parts_come_back e d n k lease s above e1 good done out st applied new h =
     (out.0, (out.1.0, (t.0, (out.1.1, home, record { put = t.1.0.put; batches = t.1.0.batches }))))
 
 -- THE STATE knows of itself what it knew, also where not all turns that are out are kept
-module _ (old : State) (ls : List Lease) (slots : List Slot) (d : Lease) (n k lease : ℕ) (s : Slot) (above : Option Slot) (e1 : PlainEngine) (sound : IsSound old) (good : GoodEngine (out_with old ls slots))
+module _ (old : EngineState) (ls : List Lease) (slots : List Slot) (d : Lease) (n k lease : ℕ) (s : Slot) (above : Option Slot) (e1 : PlainEngine) (sound : IsSound old) (good : GoodEngine (out_with old ls slots))
     (few : length (others d.number ls) ≤ length (engine_in old).leases) (out : IsOutAsIn (out_with old ls slots) d) (st : AreSteps (out_with old ls slots) d n k lease s above e1) where
-  pub sound_ended : (new : State) → HasEnded e1 lease s above (engine_in new) → GivesNothing old new → IsSound new
+  pub sound_ended : (new : EngineState) → HasEnded e1 lease s above (engine_in new) → GivesNothing old new → IsSound new
   sound_ended new h r =
       let e = out_with old ls slots in
       let t = took e d n k lease s above e1 good out st in

@@ -7,7 +7,7 @@ use Rattle.column.specs.declared.batch.Side.{Side}
 use Rattle.op_queue.specs.declared.item.Item.{Item}
 use Rattle.turn.specs.Nodes.{PlainNode}
 use Rattle.turn.specs.Turns.{Answered, Outs, Put}
-use Rattle.turn.specs.declared.excerpts.Near.{Near}
+use Rattle.turn.specs.declared.excerpts.Excerpt.{Excerpt}
 use Rattle.turn.specs.declared.kinds.Kind.{Kind}
 use Rattle.turn.specs.declared.parts.Parts.{Parts}
 use Rattle.plan.proofs.Lists.{by_test}
@@ -33,8 +33,8 @@ use Rattle.leases.specs.Sound.{IsSound, is_gone}
 use Rattle.leases.specs.Turns.{IsOut, IsStranger, lease_of_parts}
 use Rattle.leases.specs.Views.{HasKind, lease_of}
 use Rattle.turn.specs.declared.turns.Turn.{Turn}
-use Rattle.leases.specs.declared.reader.Reader.{Reader}
-use Rattle.leases.specs.declared.state.State.{State}
+use Rattle.leases.specs.declared.reader.WindowReader.{WindowReader}
+use Rattle.leases.specs.declared.state.EngineState.{EngineState}
 use Rattle.leases.proofs.OutLemmas.{turn_in}
 use Rattle.leases.proofs.ListedLemmas.{readers_left}
 
@@ -45,7 +45,7 @@ pub record StaysBut (old new : PlainEngine) : Type 0 where
   pub few : length new.leases ≤ length old.leases
   pub gone : map is_gone new.queries ≡ map is_gone old.queries
 
-pub sound_from : (old new : State) → IsSound old → new.undropped ≡ old.undropped → new.readers.items ≡ readers_of (engine_in new) → ((g : Turn) → IsIn new.leases.items g → IsIn old.leases.items g) → GoodEngine (engine_in new) → StaysBut (engine_in old) (engine_in new)
+pub sound_from : (old new : EngineState) → IsSound old → new.undropped ≡ old.undropped → new.readers.items ≡ readers_of (engine_in new) → ((g : Turn) → IsIn new.leases.items g → IsIn old.leases.items g) → GoodEngine (engine_in new) → StaysBut (engine_in old) (engine_in new)
     → ((g : Turn) → IsIn old.leases.items g → HasKind (engine_in new) g) → IsSound new
 sound_from old new s undropped readers leases good st kinds = record {
   good = good;
@@ -74,11 +74,11 @@ kinds_put p p2 k (Answered rows) h put j = by_test (j == k)
     (λ f. ap (λ o. o.kind) (put.others j (λ z. absurd (let b : (j == k) ≡ true = eq-eqb j k z in cc))))
 
 -- THE ENGINE of a state, with other turns out and other slots
-abbrev pub out_with : State → List Lease → List Slot → PlainEngine
+abbrev pub out_with : EngineState → List Lease → List Slot → PlainEngine
 out_with s ls slots = record (engine_in s) { leases = ls; slots = slots }
 
 -- A TURN THAT IS OUT
-module _ (old new : State) (ls : List Lease) (slots : List Slot) (d : Lease) (q : Registered) (p : PlainQuery) (s : IsSound old) (good : GoodEngine (out_with old ls slots)) (out : IsOutAs (out_with old ls slots) d q p) where
+module _ (old new : EngineState) (ls : List Lease) (slots : List Slot) (d : Lease) (q : Registered) (p : PlainQuery) (s : IsSound old) (good : GoodEngine (out_with old ls slots)) (out : IsOutAs (out_with old ls slots) d q p) where
   abbrev e : PlainEngine
   e = out_with old ls slots
 
@@ -137,20 +137,20 @@ module _ (old new : State) (ls : List Lease) (slots : List Slot) (d : Lease) (q 
         gone = map-set_same is_gone e.queries d.query (Broken p.answers (upto_at e d.query)) Dropped (sym running_gone);
       } in
       let readers : new.readers.items ≡ readers_of (engine_in new) =
-      f.readers ∙ ap (λ rs. filter (λ (r : Reader). not (r.query == d.query)) rs) s.readers
+      f.readers ∙ ap (λ rs. filter (λ (r : WindowReader). not (r.query == d.query)) rs) s.readers
       ∙ readers_left d.query 0 d.query e.machine.queries (map runs e.queries) (omega arith)
       ∙ ap (readers_from 0 e.machine.queries) (sym (map-set runs e.queries d.query (Broken p.answers (upto_at e d.query)))) ∙ ap readers_of (sym is) in
       sound_from old new s f.undropped readers f.leases (subst GoodEngine (sym is) (break_good e d.query q p good out.of.registered out.of.running)) (subst (StaysBut (engine_in old)) (sym is) stays)
       (λ g i. subst (λ z. HasKind z g) (sym is) (kinds_broken g i))
 
 -- THE TURN OF A NUMBER that is out
-abbrev lease_with : ℕ → PlainNode → Item → Near → Lease
+abbrev lease_with : ℕ → PlainNode → Item → Excerpt → Lease
 lease_with n v i x = record { number = n; query = v.query; operator = v.operator; side = v.side; item = i; excerpt = x }
 
 abbrev node_with : ℕ → ℕ → Side → Kind → PlainNode
 node_with n k side kind = record { query = n; operator = k; side = side; kind = kind }
 
-module _ (s : State) (d : Parts) (g : Turn) (sound : IsSound s) (known : IsIn s.leases.items g) (numbered : g.lease ≡ d.lease) where
+module _ (s : EngineState) (d : Parts) (g : Turn) (sound : IsSound s) (known : IsIn s.leases.items g) (numbered : g.lease ≡ d.lease) where
   there : IsIn (engine_in s).leases (lease_of g)
   there = turn_in s.leases.items g known
 

@@ -23,7 +23,7 @@ use Rattle.leases.specs.Undropped.{limits_from, limits_in, undropped_of}
 use Rattle.leases.specs.Views.{HasKind, engine_of, query_of}
 use Rattle.leases.specs.declared.limits.TheConstants.{LEASE_NUMBERS, MAX_LEASES}
 use Rattle.leases.specs.declared.registered.Registration.{Registration}
-use Rattle.leases.specs.declared.state.State.{State}
+use Rattle.leases.specs.declared.state.EngineState.{EngineState}
 use Rattle.leases.proofs.DropLemmas.{gone_at}
 use Rattle.leases.proofs.LimitLemmas.{kept}
 
@@ -72,7 +72,7 @@ columns_left keep n [] h = tt
 columns_left keep n (s ∷ ss) h = (record { some = h.0.some; few = h.0.few }, columns_left keep (suc n) ss h.1)
 
 -- IT IS SOUND, where few rows were answered before its queries' starts
-pub forgotten_sound : (s t : State) → IsSound s → HaveFewClosed (forgotten (engine_in s)).machine → engine_in t ≡ forgotten (engine_in s) → t.leases.items ≡ s.leases.items → t.next ≡ s.next → t.undropped ≡ s.undropped
+pub forgotten_sound : (s t : EngineState) → IsSound s → HaveFewClosed (forgotten (engine_in s)).machine → engine_in t ≡ forgotten (engine_in s) → t.leases.items ≡ s.leases.items → t.next ≡ s.next → t.undropped ≡ s.undropped
     → t.readers.items ≡ s.readers.items → IsSound t
 forgotten_sound s t h closed is leases next undropped readers =
     let e = engine_in s in
@@ -91,10 +91,10 @@ forgotten_sound s t h closed is leases next undropped readers =
     }
 
 -- few rows were answered before the starts of its queries, since a broken one was not dropped
-pub forgotten_closed : (s : State) → IsSound s → HaveFewClosed (forgotten (engine_in s)).machine
+pub forgotten_closed : (s : EngineState) → IsSound s → HaveFewClosed (forgotten (engine_in s)).machine
 forgotten_closed s h = forgotten_few (engine_in s) h.good h.closed (λ n q answers upto here left. gone_at (engine_in s).machine.queries (engine_in s).queries h.gone n q here ∙ ap is_gone left)
 
 -- WITH THE ROWS THAT STAY, and the queries as they go on, it is what is left of the engine
-pub forgets : (s : State) (streams : List Stream) (registered : List Registration) → streams ≡ with_kept (needs_in (engine_in s)) 0 s.streams → map query_of registered ≡ restarted_by s.registered.items s.remains.items (earlier_in s.remains.items)
+pub forgets : (s : EngineState) (streams : List Stream) (registered : List Registration) → streams ≡ with_kept (needs_in (engine_in s)) 0 s.streams → map query_of registered ≡ restarted_by s.registered.items s.remains.items (earlier_in s.remains.items)
     → engine_of streams registered s.remains.items s.leases.items s.next s.slots ≡ forgotten (engine_in s)
 forgets s streams registered a b = ap₂ (λ (x : List Stream) (y : List Registered). record (engine_in s) { machine = record { streams = x; queries = y } }) a b

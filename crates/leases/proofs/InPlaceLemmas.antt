@@ -30,8 +30,8 @@ use Rattle.leases.specs.Sound.{IsSound}
 use Rattle.leases.specs.Turns.{lease_fault}
 use Rattle.leases.specs.Views.{HasKind, lease_of}
 use Rattle.leases.specs.declared.limits.TheConstants.{LEASE_NUMBERS}
-use Rattle.leases.specs.declared.reader.Reader.{Reader}
-use Rattle.leases.specs.declared.state.State.{State}
+use Rattle.leases.specs.declared.reader.WindowReader.{WindowReader}
+use Rattle.leases.specs.declared.state.EngineState.{EngineState}
 use Rattle.leases.proofs.FinishBackLemmas.{gives_on}
 use Rattle.leases.proofs.FinishSoundLemmas.{StaysBut, sound_from}
 use Rattle.leases.proofs.LeaseLemmas.{turn_with}
@@ -71,17 +71,17 @@ stopped_as e e2 s rows p running stopped =
     let again : set e.queries s.query (Running p) ≡ e.queries = ap (set e.queries s.query) (sym running) ∙ set-get_or e.queries s.query Dropped in
     l.1.1 ∙ ap (λ (z : PlainQuery). with_remains e s.query (Running z)) l.1.0 ∙ ap (λ (qs : List PlainRemains). record e { queries = qs }) again
 
-pub sound_as : (old new : State) → IsSound old → engine_in new ≡ engine_in old → GivesNothing old new → IsSound new
+pub sound_as : (old new : EngineState) → IsSound old → engine_in new ≡ engine_in old → GivesNothing old new → IsSound new
 sound_as old new sound is r =
     let stays : StaysBut (engine_in old) (engine_in old) = record { machine = refl; next = refl; few = omega arith; gone = refl } in
     sound_from old new sound r.undropped (r.readers ∙ sound.readers ∙ ap readers_of (sym is)) r.leases (subst GoodEngine (sym is) sound.good) (subst (StaysBut (engine_in old)) (sym is) stays)
     (λ g i. subst (λ z. HasKind z g) (sym is) (sound.kinds g i))
 
 -- A NUMBER is given
-abbrev pub given : State → ℕ → State
+abbrev pub given : EngineState → ℕ → EngineState
 given m n = record m { next = n + 1 }
 
-module _ (old : State) (s : Slot) (rows : ℕ) (sound : IsSound old) (first : first_of old.slots ≡ Some s) (allowed : lease_fault (engine_in old) rows ≡ None) (numbers : old.next < LEASE_NUMBERS) where
+module _ (old : EngineState) (s : Slot) (rows : ℕ) (sound : IsSound old) (first : first_of old.slots ≡ Some s) (allowed : lease_fault (engine_in old) rows ≡ None) (numbers : old.next < LEASE_NUMBERS) where
   -- THE QUERY that runs
   p : PlainQuery
   p = (may_look_here old s sound first).1.0
@@ -101,7 +101,7 @@ module _ (old : State) (s : Slot) (rows : ℕ) (sound : IsSound old) (first : fi
   made i leased = (p, record { running = running; number = refl; node = refl; leased = leased })
 
   -- IT HAS RUN
-  module _ (m : State) (run : HasRunIn (engine_in old) s rows (engine_in m)) where
+  module _ (m : EngineState) (run : HasRunIn (engine_in old) s rows (engine_in m)) where
     took : (p2 : PlainQuery) × (HasRunOn (engine_in old).machine.streams p s rows p2 × (engine_in m ≡ with_remains (engine_in old) s.query (Running p2)))
     took = run p running
 
@@ -127,13 +127,13 @@ module _ (old : State) (s : Slot) (rows : ℕ) (sound : IsSound old) (first : fi
       pub has_run : (new : PlainEngine) → HasTold (engine_in (given m old.next)) s above new → OneHasRun rows (engine_in old) new
       has_run new h = ran old s rows t sound first allowed numbers is_made above over (engine_in (given m old.next)) applied new h
 
-      pub run_sound : (new : State) → HasTold (engine_in (given m old.next)) s above (engine_in new) → GivesNothing old m → GivesNothing (given m old.next) new → IsSound new
+      pub run_sound : (new : EngineState) → HasTold (engine_in (given m old.next)) s above (engine_in new) → GivesNothing old m → GivesNothing (given m old.next) new → IsSound new
       run_sound new h r u =
           let gives : GivesNothing (counted old) (given m old.next) = record { undropped = r.undropped; readers = r.readers; leases = r.leases } in
           ran_sound old s rows t sound first allowed numbers is_made above over (engine_in (given m old.next)) applied new h (gives_on (counted old) (given m old.next) new gives u)
 
   -- IT WAS REFUSED MEMORY with an item in hand, and its query breaks
-  module _ (m : State) (stopped : HasStoppedIn Within (engine_in old) s rows (engine_in m)) where
+  module _ (m : EngineState) (stopped : HasStoppedIn Within (engine_in old) s rows (engine_in m)) where
     left : (p2 : PlainQuery) × (HasItemOn (engine_in old).machine.streams p s rows p2 × (engine_in m ≡ with_remains (engine_in old) s.query (Running p2)))
     left = stopped p running
 
@@ -149,7 +149,7 @@ module _ (old : State) (s : Slot) (rows : ℕ) (sound : IsSound old) (first : fi
     w_made : IsTurnOn (engine_in old) s rows w
     w_made = made left.1.0.held.0 left.1.0.held.1
 
-    module _ (upto : ℕ) (reached : upto ≡ upto_at (engine_in old) s.query) (new : State) (broke : IsBrokenAt (engine_in (given m old.next)) s.query upto (engine_in new)) where
+    module _ (upto : ℕ) (reached : upto ≡ upto_at (engine_in old) s.query) (new : EngineState) (broke : IsBrokenAt (engine_in (given m old.next)) s.query upto (engine_in new)) where
       queries : set (set (engine_in old).queries s.query (Running left.0)) s.query (Broken left.0.answers upto) ≡ set (engine_in old).queries s.query (Broken p.answers upto)
       queries = set-set (engine_in old).queries s.query (Running left.0) (Broken left.0.answers upto) ∙ ap (λ z. set (engine_in old).queries s.query (Broken z upto)) left.1.0.answers
 
@@ -167,4 +167,4 @@ module _ (old : State) (s : Slot) (rows : ℕ) (sound : IsSound old) (first : fi
 
       pub within_sound : Forgets s.query (given m old.next) new → GivesNothing old m → IsSound new
       within_sound f r = broke_sound old s rows w sound first allowed numbers w_made new breaks
-          (record { undropped = f.undropped ∙ r.undropped; readers = f.readers ∙ ap (λ rs. filter (λ (z : Reader). not (z.query == s.query)) rs) r.readers; leases = λ g i. r.leases g (f.leases g i) })
+          (record { undropped = f.undropped ∙ r.undropped; readers = f.readers ∙ ap (λ rs. filter (λ (z : WindowReader). not (z.query == s.query)) rs) r.readers; leases = λ g i. r.leases g (f.leases g i) })

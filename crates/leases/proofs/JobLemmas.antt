@@ -31,8 +31,8 @@ use Rattle.leases.specs.Sound.{is_gone}
 use Rattle.leases.specs.Undropped.{undropped_of}
 use Rattle.leases.specs.Views.{lease_of, remains_of}
 use Rattle.leases.specs.declared.limits.TheConstants.{LEASE_NUMBERS}
-use Rattle.leases.specs.declared.reader.Reader.{Reader}
-use Rattle.leases.specs.declared.state.State.{State}
+use Rattle.leases.specs.declared.reader.WindowReader.{WindowReader}
+use Rattle.leases.specs.declared.state.EngineState.{EngineState}
 use Rattle.leases.specs.declared.state.jobs.Job.{Job}
 use Rattle.leases.specs.declared.state.jobs.TheConstants.{MOST_TURNS}
 use Rattle.leases.proofs.AloneLemmas as alone
@@ -134,7 +134,7 @@ one_fewer : (a m t s k : ℕ) → (a + 1) * m + s ≤ k → t ≤ m → a * m + 
 one_fewer a m t s k h few = let more : (a + 1) * m ≡ a * m + m = omega arith in omega (arith, h, few, more)
 
 -- THE LAST JOB comes home
-module _ (e : PlainEngine) (rows : ℕ) (rest : List Job) (job : Job) (s : State) (out : AreOut e rows (rest ++ job ∷ []) s) where
+module _ (e : PlainEngine) (rows : ℕ) (rest : List Job) (job : Job) (s : EngineState) (out : AreOut e rows (rest ++ job ∷ []) s) where
   abbrev pub last : IsLast e rows out.outs rest job
   last = last_of e rows out.outs rest job out.each
 
@@ -193,7 +193,7 @@ module _ (e : PlainEngine) (rows : ℕ) (rest : List Job) (job : Job) (s : State
       one_fewer (length rest) MOST_TURNS job.turns s.next LEASE_NUMBERS all done.few
 
   -- THE STATE is as it was, except for the query that came home and its slots
-  module _ (w : State) (r : PlainRemains) (count : ℕ) (e2 : PlainEngine) (after : After e n count r e2) (counts : job.turns ≡ count) (lives : is_gone r ≡ false)
+  module _ (w : EngineState) (r : PlainRemains) (count : ℕ) (e2 : PlainEngine) (after : After e n count r e2) (counts : job.turns ≡ count) (lives : is_gone r ≡ false)
       (is : engine_in w ≡ record e { queries = set here n r; next = e.next + count; slots = w.slots }) (slots : w.slots ≡ e2.slots) (leases : w.leases.items ≡ []) (undropped : w.undropped ≡ s.undropped) (readers : w.readers.items ≡ readers_of e2) where
     machine : e2.machine ≡ e.machine
     machine = ap (λ (z : PlainEngine). z.machine) after.is
@@ -224,7 +224,7 @@ module _ (e : PlainEngine) (rows : ℕ) (rest : List Job) (job : Job) (s : State
     }
 
   -- IT IS PUT BACK
-  module _ (m : State) (put : engine_in m ≡ record (engine_in s) { queries = set here n (remains_of job.remains); next = s.next + job.turns }) (undropped : m.undropped ≡ s.undropped) (readers : m.readers.items ≡ s.readers.items)
+  module _ (m : EngineState) (put : engine_in m ≡ record (engine_in s) { queries = set here n (remains_of job.remains); next = s.next + job.turns }) (undropped : m.undropped ≡ s.undropped) (readers : m.readers.items ≡ s.readers.items)
       (leases : m.leases.items ≡ s.leases.items) where
     abbrev pub after : PlainQuery
     after = done.after
@@ -322,13 +322,13 @@ module _ (e : PlainEngine) (rows : ℕ) (rest : List Job) (job : Job) (s : State
           let r = below_are e n q p (length p.operators) y (subst (λ zs. IsIn zs y) listed i) in
           subst (λ (z : Slot). next_for (engine_in m) z.query z.operator ≡ next_for g z.query z.operator) (sym r.1.1) (next_same_for r.0))
 
-      module _ (w : State) (told : w ≡ with_slots m (with_updates (engine_in m) job.slots.items m.slots)) where
+      module _ (w : EngineState) (told : w ≡ with_slots m (with_updates (engine_in m) job.slots.items m.slots)) where
         has_slots : HasSlots (slot_of (record g { slots = e1.slots })) e1.slots
         has_slots = subst (λ z. HasSlots (slot_of z) e1.slots) on.after.is on.after.good.slots
 
         slots_then : w.slots ≡ e1.slots
         slots_then =
-            ap (λ (z : State). z.slots) told
+            ap (λ (z : EngineState). z.slots) told
             ∙ ap (with_updates (engine_in m) job.slots.items) slots_before
             ∙ tells_same
             ∙ ap (λ ts. with_updates g ts e.slots) listed
@@ -338,11 +338,11 @@ module _ (e : PlainEngine) (rows : ℕ) (rest : List Job) (job : Job) (s : State
         engine_then =
             ap engine_in told
             ∙ ap (λ (z : PlainEngine). record z { slots = with_updates (engine_in m) job.slots.items m.slots }) engine_is
-            ∙ ap (λ ss. record bare { slots = ss }) (sym (ap (λ (z : State). z.slots) told))
+            ∙ ap (λ ss. record bare { slots = ss }) (sym (ap (λ (z : EngineState). z.slots) told))
 
         readers_then : w.readers.items ≡ readers_of e1
         readers_then =
-            ap (λ (z : State). z.readers.items) told ∙ readers ∙ out.readers
+            ap (λ (z : EngineState). z.readers.items) told ∙ readers ∙ out.readers
             ∙ ap (readers_from 0 e.machine.queries) (sym (map-set_same runs e.queries n (Running after) Dropped (sym (ap runs of.running))))
             ∙ ap readers_of (sym on.after.is)
 
@@ -350,7 +350,7 @@ module _ (e : PlainEngine) (rows : ℕ) (rest : List Job) (job : Job) (s : State
         home_runs = (
           e1,
           (
-            comes_home w (Running after) count e1 on.after counts refl engine_then slots_then (ap (λ (z : State). z.leases.items) told ∙ no_leases) (ap (λ (z : State). z.undropped) told ∙ undropped) readers_then,
+            comes_home w (Running after) count e1 on.after counts refl engine_then slots_then (ap (λ (z : EngineState). z.leases.items) told ∙ no_leases) (ap (λ (z : EngineState). z.undropped) told ∙ undropped) readers_then,
             (on.steps, (on.run, on.done)),
           ),
         )
@@ -380,7 +380,7 @@ module _ (e : PlainEngine) (rows : ℕ) (rest : List Job) (job : Job) (s : State
           ap (slot_in left j k (query_at e j)) (remains_there e n j gone ne)
           ∙ same_slot_in e left.queries e.leases left.next e2.slots j k refl (query_at e j) (remains_at e j)
 
-      module _ (w : State) (stops : Stops n m w) where
+      module _ (w : EngineState) (stops : Stops n m w) where
         slots_gone : w.slots ≡ e2.slots
         slots_gone =
             stops.slots ∙ ap (without_query n) slots_before
@@ -401,7 +401,7 @@ module _ (e : PlainEngine) (rows : ℕ) (rest : List Job) (job : Job) (s : State
 
         readers_gone : w.readers.items ≡ readers_of e2
         readers_gone =
-            stops.readers ∙ ap (λ rs. filter (λ (x : Reader). not (x.query == n)) rs) (readers ∙ out.readers)
+            stops.readers ∙ ap (λ rs. filter (λ (x : WindowReader). not (x.query == n)) rs) (readers ∙ out.readers)
             ∙ readers_left n 0 n e.machine.queries (map runs e.queries) (omega arith)
             ∙ ap (readers_from 0 e.machine.queries) (sym (map-set runs e.queries n gone))
             ∙ ap readers_of (sym after2.is)
@@ -412,7 +412,7 @@ module _ (e : PlainEngine) (rows : ℕ) (rest : List Job) (job : Job) (s : State
         pub home_broken : (e3 : PlainEngine) × (AreOut e3 rows rest w × HaveComeHome rows false e e3)
         home_broken = (
           e2,
-          (comes_home w gone (count + 1) e2 after2 counts refl engine_gone slots_gone leases_gone (ap (λ (z : State). z.undropped) stops.rest ∙ undropped) readers_gone, (on.steps ++ FailedAny (failing e1 n q after on.after.good returned_on registered_on running_on rows fails_on) ∷ [], (tried, failed_behind on.steps (FailedAny (failing e1 n q after on.after.good returned_on registered_on running_on rows fails_on) ∷ []) refl))),
+          (comes_home w gone (count + 1) e2 after2 counts refl engine_gone slots_gone leases_gone (ap (λ (z : EngineState). z.undropped) stops.rest ∙ undropped) readers_gone, (on.steps ++ FailedAny (failing e1 n q after on.after.good returned_on registered_on running_on rows fails_on) ∷ [], (tried, failed_behind on.steps (FailedAny (failing e1 n q after on.after.good returned_on registered_on running_on rows fails_on) ∷ []) refl))),
         )
 
     -- WHICHEVER IT DID
@@ -422,13 +422,13 @@ module _ (e : PlainEngine) (rows : ℕ) (rest : List Job) (job : Job) (s : State
         (λ h. absurd (let bad : true ≡ false = sym (ap is_broken h.0) ∙ lives in cc))
         done.end
 
-    pub comes_running : is_broken (remains_of job.remains) ≡ false → (w : State) → w ≡ with_slots m (with_updates (engine_in m) job.slots.items m.slots) → (e2 : PlainEngine) × (AreOut e2 rows rest w × HaveComeHome rows true e e2)
+    pub comes_running : is_broken (remains_of job.remains) ≡ false → (w : EngineState) → w ≡ with_slots m (with_updates (engine_in m) job.slots.items m.slots) → (e2 : PlainEngine) × (AreOut e2 rows rest w × HaveComeHome rows true e e2)
     comes_running lives w told = ⊎_elim
         (λ h. home_runs h.0 h.1 w told)
         (λ h. absurd (let bad : true ≡ false = sym (ap is_broken h.0) ∙ lives in cc))
         done.end
 
-    pub comes_broken : is_broken (remains_of job.remains) ≡ true → (w : State) → Stops n m w → (e2 : PlainEngine) × (AreOut e2 rows rest w × HaveComeHome rows false e e2)
+    pub comes_broken : is_broken (remains_of job.remains) ≡ true → (w : EngineState) → Stops n m w → (e2 : PlainEngine) × (AreOut e2 rows rest w × HaveComeHome rows false e e2)
     comes_broken ends w stops = ⊎_elim
         (λ h. absurd (let bad : false ≡ true = sym (ap is_broken h.0) ∙ ends in cc))
         (λ h. home_broken h.0 h.1 h.2 w stops)

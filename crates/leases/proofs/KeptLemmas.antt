@@ -25,7 +25,7 @@ use Rattle.leases.specs.Sound.{IsSound}
 use Rattle.leases.specs.Views.{query_of, remains_of}
 use Rattle.leases.specs.declared.registered.Registration.{Registration}
 use Rattle.leases.specs.declared.remains.Remains.{Remains}
-use Rattle.leases.specs.declared.state.State.{State}
+use Rattle.leases.specs.declared.state.EngineState.{EngineState}
 use Rattle.leases.specs.declared.state.forget.Going.{Going}
 use Rattle.leases.specs.declared.state.forget.KeptRows.{KeptRows}
 use Rattle.leases.proofs.KeepingLemmas.{readers_are, says_kept}
@@ -39,7 +39,7 @@ all_read [] n h k = tt
 all_read (s ∷ ss) zero h k = is_regular s h.0 k.0
 all_read (s ∷ ss) (suc n) h k = all_read ss n h.1 k.1
 
-pub read_in : (s : State) → IsSound s → (n : ℕ) → AreReadIn s.streams n
+pub read_in : (s : EngineState) → IsSound s → (n : ℕ) → AreReadIn s.streams n
 read_in s sound n = all_read s.streams n sound.good.rows sound.good.machine.streams
 
 -- THE READERS of a stream
@@ -47,18 +47,18 @@ sources_are : (n : ℕ) (gs : List Going) → all_sources n gs ≡ flat_map (sou
 sources_are n [] = refl
 sources_are n (g ∷ gs) = ap (λ l. sources_of n (going_of g) ++ l) (sources_are n gs)
 
-pub sources_over : (s : State) (n : ℕ) (gs : List Going) → going_in gs s.registered.items s.remains.items → all_sources n gs ≡ readers_over n (engine_in s).machine.queries (marks_by (engine_in s).machine.queries (engine_in s).queries)
+pub sources_over : (s : EngineState) (n : ℕ) (gs : List Going) → going_in gs s.registered.items s.remains.items → all_sources n gs ≡ readers_over n (engine_in s).machine.queries (marks_by (engine_in s).machine.queries (engine_in s).queries)
 sources_over s n gs is = sources_are n gs ∙ ap (flat_map (sources_of n)) is ∙ readers_are n (map query_of s.registered.items) (marks_by (map query_of s.registered.items) (map remains_of s.remains.items))
 
 -- the same queries, seen through a slice
-pub going_through : (s : State) (gs gs2 : List Going) (rs : List Registration) (ks : List Remains) → gs2 ≡ gs → rs ≡ s.registered.items → ks ≡ s.remains.items → going_in gs rs ks → going_in gs2 s.registered.items s.remains.items
+pub going_through : (s : EngineState) (gs gs2 : List Going) (rs : List Registration) (ks : List Remains) → gs2 ≡ gs → rs ≡ s.registered.items → ks ≡ s.remains.items → going_in gs rs ks → going_in gs2 s.registered.items s.remains.items
 going_through s gs gs2 rs ks a b c is = subst (λ z. going_in z s.registered.items s.remains.items) (sym a) (subst (λ z. going_in gs z s.remains.items) b (subst (λ z. going_in gs rs z) c is))
 
-pub markable_through : (s : State) (rs : List Registration) (ks : List Remains) → rs ≡ s.registered.items → ks ≡ s.remains.items → AreMarkable s.registered.items s.remains.items → AreMarkable rs ks
+pub markable_through : (s : EngineState) (rs : List Registration) (ks : List Remains) → rs ≡ s.registered.items → ks ≡ s.remains.items → AreMarkable s.registered.items s.remains.items → AreMarkable rs ks
 markable_through s rs ks b c is = subst (λ z. AreMarkable z ks) (sym b) (subst (λ z. AreMarkable s.registered.items z) (sym c) is)
 
 -- WHAT IS SAID of one stream
-module _ (s : State) (sound : IsSound s) (n : ℕ) (gs : List Going) (going : going_in gs s.registered.items s.remains.items) (k : KeptRows)
+module _ (s : EngineState) (sound : IsSound s) (n : ℕ) (gs : List Going) (going : going_in gs s.registered.items s.remains.items) (k : KeptRows)
     (marks : (t : Stream) → slice_get s.streams n ≡ Some t → k.marks.items ≡ map (is_needed_by_some (closed_of t).elements (all_sources n gs)) (closed_of t).elements) (starts : k.starts.items ≡ map start_of (all_sources n gs)) where
   said_of : (o : Option Stream) → slice_get s.streams n ≡ o → SaysKeptOf k.marks.items k.starts.items (needs_in (engine_in s) n) o
   said_of None at = tt
@@ -87,17 +87,17 @@ all_more keep ks x ss all one = λ i d lt.
     (cases_lt i (length ks))
 
 -- it is said of the first n streams what is to be kept
-pub record SaysFirst (s : State) (kept : List KeptRows) (n : ℕ) : Type 0 where
+pub record SaysFirst (s : EngineState) (kept : List KeptRows) (n : ℕ) : Type 0 where
   pub many : length kept ≡ n
   pub all : AllSay (needs_in (engine_in s)) (map said_in kept) s.streams
 
-none_said : (s : State) → SaysFirst s [] 0
+none_said : (s : EngineState) → SaysFirst s [] 0
 none_said s = record { many = refl; all = λ i d l. absurd (omega (arith, l)) }
 
-pub says_none : (s : State) (kept : List KeptRows) → kept ≡ [] → SaysFirst s kept 0
+pub says_none : (s : EngineState) (kept : List KeptRows) → kept ≡ [] → SaysFirst s kept 0
 says_none s kept is = subst (λ z. SaysFirst s z 0) (sym is) (none_said s)
 
-pub says_next : (s : State) → IsSound s → (n : ℕ) (gs : List Going) (k : KeptRows) (kept kept2 : List KeptRows) → going_in gs s.registered.items s.remains.items
+pub says_next : (s : EngineState) → IsSound s → (n : ℕ) (gs : List Going) (k : KeptRows) (kept kept2 : List KeptRows) → going_in gs s.registered.items s.remains.items
     → ((t : Stream) → slice_get s.streams n ≡ Some t → k.marks.items ≡ map (is_needed_by_some (closed_of t).elements (all_sources n gs)) (closed_of t).elements) → k.starts.items ≡ map start_of (all_sources n gs)
     → kept2 ≡ kept ++ k ∷ [] → SaysFirst s kept n → SaysFirst s kept2 (n + 1)
 says_next s sound n gs k kept kept2 going marks starts made first =
@@ -109,5 +109,5 @@ says_next s sound n gs k kept kept2 going marks starts made first =
       all = subst (λ z. AllSay (needs_in (engine_in s)) z s.streams) (sym (ap (map said_in) made ∙ map-append said_in kept (k ∷ []))) (all_more (needs_in (engine_in s)) (map said_in kept) (said_in k) s.streams first.all one);
     }
 
-pub says_all : (s : State) (kept : List KeptRows) (n : ℕ) → n ≡ length s.streams → SaysFirst s kept n → Says (needs_in (engine_in s)) kept (engine_in s).machine.streams
+pub says_all : (s : EngineState) (kept : List KeptRows) (n : ℕ) → n ≡ length s.streams → SaysFirst s kept n → Says (needs_in (engine_in s)) kept (engine_in s).machine.streams
 says_all s kept n is first = record { many = first.many ∙ is; all = first.all }

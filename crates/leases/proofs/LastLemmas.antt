@@ -20,7 +20,7 @@ use Rattle.leases.specs.Runs.{HasLast, HasRunOn, last_of}
 use Rattle.leases.specs.Shown.{engine_in}
 use Rattle.leases.specs.Views.{query_of}
 use Rattle.leases.specs.declared.registered.Registration.{Registration}
-use Rattle.leases.specs.declared.state.State.{State}
+use Rattle.leases.specs.declared.state.EngineState.{EngineState}
 use Rattle.leases.proofs.GoingLemmas.{next_small}
 
 -- A TURN of another operator
@@ -49,7 +49,7 @@ module _ (e : PlainEngine) (n : ℕ) (q : Registered) (p : PlainQuery) (register
       ∙ ap (λ o. option_map_or (λ (r : Registered). upto_in r (remains_at e n)) o 0) (sym registered)
 
 -- THE QUERY as the code has it, where the machine is the same
-pub registration_is : (m : State) (e : PlainEngine) (n : ℕ) (q : Registered) (r : Registration) → (engine_in m).machine ≡ e.machine → query_at e n ≡ Some q → r ≡ get_or m.registered.items n r → query_of r ≡ q
+pub registration_is : (m : EngineState) (e : PlainEngine) (n : ℕ) (q : Registered) (r : Registration) → (engine_in m).machine ≡ e.machine → query_at e n ≡ Some q → r ≡ get_or m.registered.items n r → query_of r ≡ q
 registration_is m e n q r same registered here =
     let many : length (map query_of m.registered.items) ≡ length m.registered.items = length-map m.registered.items query_of in
     let at : slice_get (map query_of m.registered.items) n ≡ Some q = ap (λ (z : Machine). slice_get z.queries n) same ∙ registered in

@@ -5,7 +5,7 @@ use Rattle.std.proofs.lemmas.List.{map-append}
 use Rattle.column.specs.declared.batch.Side.{Side}
 use Rattle.op_queue.specs.declared.item.Item.{Item}
 use Rattle.turn.specs.Nodes.{PlainNode}
-use Rattle.turn.specs.declared.excerpts.Near.{Near}
+use Rattle.turn.specs.declared.excerpts.Excerpt.{Excerpt}
 use Rattle.turn.specs.declared.turns.Turn.{Turn}
 use Rattle.operators.specs.Inboxes.{cut_of}
 use Rattle.operators.specs.Operators.{inbox_of, ready}
@@ -40,7 +40,7 @@ use Rattle.leases.specs.Views.{HasKind, engine_of, lease_of}
 use Rattle.leases.specs.declared.leased.Leased.{Leased}
 use Rattle.leases.specs.declared.leased.Leased.TheVariants.{Idle}
 use Rattle.leases.specs.declared.limits.TheConstants.{LEASE_NUMBERS, MAX_LEASES}
-use Rattle.leases.specs.declared.state.State.{State}
+use Rattle.leases.specs.declared.state.EngineState.{EngineState}
 
 -- WHAT A TURN OF A SLOT says of the query that runs
 same_running : {p r : PlainQuery} → Running p ≡ Running r → p ≡ r
@@ -50,10 +50,10 @@ made_of : (e : PlainEngine) (s : Slot) (rows : ℕ) (g : Turn) (p : PlainQuery) 
 made_of e s rows g p running made = subst (IsOfSlot e s rows g) (same_running (sym made.1.running ∙ running)) made.1
 
 -- one with an item and an excerpt
-abbrev pub turn_with : PlainEngine → PlainQuery → Slot → Item → Near → Turn
+abbrev pub turn_with : PlainEngine → PlainQuery → Slot → Item → Excerpt → Turn
 turn_with e p s i near = record { lease = e.next; node = node_on p s; item = i; near = near }
 
-abbrev with_number : ℕ → PlainNode → Item → Near → Turn
+abbrev with_number : ℕ → PlainNode → Item → Excerpt → Turn
 with_number a node i near = record { lease = a; node = node; item = i; near = near }
 
 is_turn_with : (e : PlainEngine) (s : Slot) (rows : ℕ) (g : Turn) (p : PlainQuery) → IsOfSlot e s rows g p → g ≡ turn_with e p s g.item g.near
@@ -122,7 +122,7 @@ module _ (e : PlainEngine) (s : Slot) (rows : ℕ) (good : GoodEngine e) (first 
   )
 
   module _ (allowed : lease_fault e rows ≡ None) where
-    module _ (i : Item) (near : Near) (is : IsLeased (operator_at top.plain.operators s.operator) (log_of e.machine.streams top.plain s.operator) s.side rows i near) where
+    module _ (i : Item) (near : Excerpt) (is : IsLeased (operator_at top.plain.operators s.operator) (log_of e.machine.streams top.plain s.operator) s.side rows i near) where
       abbrev made : Turn
       made = turn_with e top.plain s i near
 
@@ -170,7 +170,7 @@ module _ (e : PlainEngine) (s : Slot) (rows : ℕ) (good : GoodEngine e) (first 
         subst (λ z. IsTurnOf e rows z (out_of e s z)) (sym (is_turn_with e s rows g top.plain of)) (out_made g.item g.near of.leased)
 
 -- THE STATE after it
-pub record HasGone (old new : State) (s : Slot) (g : Turn) : Type 0 where
+pub record HasGone (old new : EngineState) (s : Slot) (g : Turn) : Type 0 where
   pub engine : engine_in new ≡ engine_of old.streams old.registered.items old.remains.items new.leases.items (old.next + 1) new.slots
   pub leases : new.leases.items ≡ old.leases.items ++ g ∷ []
   pub slots : new.slots ≡ changed s None old.slots
@@ -178,7 +178,7 @@ pub record HasGone (old new : State) (s : Slot) (g : Turn) : Type 0 where
   pub undropped : new.undropped ≡ old.undropped
   pub readers : new.readers.items ≡ old.readers.items
 
-gone_engine : (old new : State) (s : Slot) (g : Turn) → HasGone old new s g → engine_in new ≡ out_of (engine_in old) s g
+gone_engine : (old new : EngineState) (s : Slot) (g : Turn) → HasGone old new s g → engine_in new ≡ out_of (engine_in old) s g
 gone_engine old new s g h =
     h.engine
     ∙ (ap (λ z. engine_of old.streams old.registered.items old.remains.items z (old.next + 1) new.slots) h.leases
@@ -192,7 +192,7 @@ in_last (x ∷ ls) g a (inl e) = inl (inl e)
 in_last (x ∷ ls) g a (inr i) = ⊎_elim (λ j. inl (inr j)) (λ e. inr e) (in_last ls g a i)
 
 -- the turn of which this is, made of the first slot
-module _ (old new : State) (s : Slot) (rows : ℕ) (g : Turn) (sound : IsSound old) (first : first_of old.slots ≡ Some s) (allowed : lease_fault (engine_in old) rows ≡ None)
+module _ (old new : EngineState) (s : Slot) (rows : ℕ) (g : Turn) (sound : IsSound old) (first : first_of old.slots ≡ Some s) (allowed : lease_fault (engine_in old) rows ≡ None)
     (made : IsTurnOn (engine_in old) s rows g) (gone : HasGone old new s g) where
   is : engine_in new ≡ out_of (engine_in old) s g
   is = gone_engine old new s g gone

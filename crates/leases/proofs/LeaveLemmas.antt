@@ -20,7 +20,7 @@ use Rattle.leases.specs.Turns.{Abandons}
 use Rattle.leases.specs.Sound.{IsSound}
 use Rattle.leases.specs.Views.{HasKind, lease_of}
 use Rattle.turn.specs.declared.turns.Turn.{Turn}
-use Rattle.leases.specs.declared.state.State.{State}
+use Rattle.leases.specs.declared.state.EngineState.{EngineState}
 use Rattle.leases.proofs.OutLemmas.{found_in, leases_left, left_in, turn_in}
 use Rattle.leases.proofs.FinishSoundLemmas.{StaysBut, sound_from}
 use Rattle.leases.proofs.LookLemmas.{asks, asks_on, tells_on}
@@ -31,14 +31,14 @@ pub fewer : {X : Type 0} (p : X → Bool) (xs : List X) → length (filter p xs)
 fewer p [] = omega arith
 fewer p (x ∷ xs) = let h : length (filter p xs) ≤ length xs = fewer p xs in by_test (p x) (λ t. rw t (omega (arith, h))) (λ f. rw f (omega (arith, h)))
 
-pub turn_ended : (s : State) (turns : Vec Turn Global) (n : ℕ) → turns.items ≡ filter (λ t. not (t.lease == n)) s.leases.items → engine_in (record s { leases = turns }) ≡ without_turn (engine_in s) n
+pub turn_ended : (s : EngineState) (turns : Vec Turn Global) (n : ℕ) → turns.items ≡ filter (λ t. not (t.lease == n)) s.leases.items → engine_in (record s { leases = turns }) ≡ without_turn (engine_in s) n
 turn_ended s turns n left = ap (λ ls. record (engine_in s) { leases = ls }) (ap (λ ts. map lease_of ts) left ∙ leases_left (λ (l : Lease). not (l.number == n)) s.leases.items)
 
-pub turn_gives_nothing : (s : State) (turns : Vec Turn Global) (n : ℕ) → turns.items ≡ filter (λ t. not (t.lease == n)) s.leases.items → GivesNothing s (record s { leases = turns })
+pub turn_gives_nothing : (s : EngineState) (turns : Vec Turn Global) (n : ℕ) → turns.items ≡ filter (λ t. not (t.lease == n)) s.leases.items → GivesNothing s (record s { leases = turns })
 turn_gives_nothing s turns n left = record { undropped = refl; readers = refl; leases = left_in (λ (t : Turn). not (t.lease == n)) s.leases.items turns.items left }
 
 -- and the slots may be told what they might be told before
-pub may_tell_left : (s : State) (turns : Vec Turn Global) (a : Slot) (above : Option Slot) → MayTellBoth s a above → MayTellBoth (record s { leases = turns }) a above
+pub may_tell_left : (s : EngineState) (turns : Vec Turn Global) (a : Slot) (above : Option Slot) → MayTellBoth s a above → MayTellBoth (record s { leases = turns }) a above
 may_tell_left s turns a above may = record {
   here = asks_on (engine_in s) (map lease_of turns.items) s.next s.slots a.query a.operator may.here;
   over = tells_on (engine_in s) (map lease_of turns.items) s.next s.slots above may.over;
@@ -50,7 +50,7 @@ pub record IsNumbered (e : PlainEngine) (n : ℕ) (l : Lease) : Type 0 where
   pub out : IsIn e.leases l
   pub number : l.number ≡ n
 
-pub known : (s : State) (n : ℕ) (g found : Turn) → g ≡ found → Some found ≡ find (λ z. z.lease == n) s.leases.items → IsNumbered (engine_in s) n (lease_of g)
+pub known : (s : EngineState) (n : ℕ) (g found : Turn) → g ≡ found → Some found ≡ find (λ z. z.lease == n) s.leases.items → IsNumbered (engine_in s) n (lease_of g)
 known s n g found same is =
     let f = found_in (λ (z : Turn). z.lease == n) s.leases.items g (ap (λ (z : Turn). Some z) same ∙ is) in
     record { out = turn_in s.leases.items g f.0; number = eqb-true g.lease n f.1 }
@@ -94,7 +94,7 @@ module _ (e : PlainEngine) (g : GoodEngine e) (n : ℕ) (l : Lease) (t : IsNumbe
     abandons = (l, (is.query, (is.plain, (t.out, (t.number, (of, is_abandoned))))))
 
 -- and the engine knows of itself what it knew
-pub stays_sound : (old new : State) (sound : IsSound old) (n : ℕ) (l : Lease) (t : IsNumbered (engine_in old) n l) (s : Slot)
+pub stays_sound : (old new : EngineState) (sound : IsSound old) (n : ℕ) (l : Lease) (t : IsNumbered (engine_in old) n l) (s : Slot)
     → ((q : Registered) (p : PlainQuery) → query_at (engine_in old) l.query ≡ Some q → remains_at (engine_in old) l.query ≡ Running p → s ≡ slot_at (engine_in old) l.query q p l.operator)
     → HasEnded (engine_in old) n s None (engine_in new) → GivesNothing old new → IsSound new
 stays_sound old new sound n l t s before ended r =

@@ -22,7 +22,7 @@ use Rattle.leases.specs.Shown.{engine_in}
 use Rattle.leases.specs.declared.limits.TheConstants.{LEASE_NUMBERS}
 use Rattle.leases.specs.declared.state.jobs.TheConstants.{MOST_TURNS}
 use Rattle.leases.specs.Views.{lease_of, query_of, remains_of}
-use Rattle.leases.specs.declared.state.State.{State}
+use Rattle.leases.specs.declared.state.EngineState.{EngineState}
 use Rattle.leases.specs.declared.state.jobs.Job.{Job}
 use Rattle.leases.specs.declared.state.jobs.Quota.{Quota}
 use Rattle.leases.proofs.JobLemmas.{Out, all_front, placed_last, placed_length, placed_set}
@@ -30,7 +30,7 @@ use Rattle.leases.proofs.OutLemmas.{item_within}
 use Rattle.leases.proofs.LendLemmas.{all_more}
 
 -- PARTLY LENT: the jobs before the place k have their queries
-pub record ArePartlyLent (old : State) (js : List Job) (k : ℕ) (new : State) : Type 0 where
+pub record ArePartlyLent (old : EngineState) (js : List Job) (k : ℕ) (new : EngineState) : Type 0 where
   pub bare : IsBare (engine_in old) old new
   pub placed : placed (map out_of (take k js)) (engine_in new).queries ≡ (engine_in old).queries
   pub apart : HaveOwnQueries js
@@ -38,7 +38,7 @@ pub record ArePartlyLent (old : State) (js : List Job) (k : ℕ) (new : State) :
   pub lent : AllByRecursion (IsLentJob (engine_in old)) (take k js)
   pub left : AllByRecursion (IsNewJob (engine_in old)) (drop k js)
 
-pub none_lent : (s : State) (js : List Job) → AreNewJobs s js → ArePartlyLent s js 0 s
+pub none_lent : (s : EngineState) (js : List Job) → AreNewJobs s js → ArePartlyLent s js 0 s
 none_lent s js h = record {
   bare = record { is = refl; undropped = refl; readers = refl; leases = refl };
   placed = refl;
@@ -54,7 +54,7 @@ take_whole [] (suc k) h = refl
 take_whole (x ∷ xs) zero h = absurd (omega (arith, h))
 take_whole (x ∷ xs) (suc k) h = ap (λ z. x ∷ z) (take_whole xs k (omega (arith, h)))
 
-pub all_lent : (old : State) (js : List Job) (k : ℕ) (new : State) → length js ≤ k → ArePartlyLent old js k new → AreLent old js new
+pub all_lent : (old : EngineState) (js : List Job) (k : ℕ) (new : EngineState) → length js ≤ k → ArePartlyLent old js k new → AreLent old js new
 all_lent old js k new end h =
     let whole : take k js ≡ js = take_whole js k end in
     record {
@@ -108,7 +108,7 @@ placed_other : (os : List Out) (n : ℕ) (qs : List PlainRemains) → AllByRecur
 placed_other [] n qs h = refl
 placed_other (o ∷ os) n qs h = placed_other os n (set qs o.0 o.1) h.1 ∙ get_or-set_other qs o.0 n o.1 Dropped (λ e. h.0 (sym e))
 
-module _ (old : State) (js : List Job) (k : ℕ) (s new : State) (j j2 : Job) (d : Job) (lt : k < length js) (here : j ≡ get_or js k d) (h : ArePartlyLent old js k s)
+module _ (old : EngineState) (js : List Job) (k : ℕ) (s new : EngineState) (j j2 : Job) (d : Job) (lt : k < length js) (here : j ≡ get_or js k d) (h : ArePartlyLent old js k s)
     (query : j2.query ≡ j.query) (slots : j2.slots.items ≡ j.slots.items) (has : remains_of j2.remains ≡ remains_at (engine_in s) j.query)
     (state : engine_in new ≡ with_remains (engine_in s) j.query (remains_of j.remains)) (rest : IsBare (engine_in s) s new) where
   abbrev e : PlainEngine
@@ -181,7 +181,7 @@ registered_here (r ∷ rs) zero q h = (r, (refl, same h)) where
   same e = cc
 registered_here (r ∷ rs) (suc n) q h = registered_here rs n q h
 
-module _ (old : State) (sound : IsSound old) (returned : (engine_in old).leases ≡ []) (js : List Job) (s : State) (h : AreLent old js s) where
+module _ (old : EngineState) (sound : IsSound old) (returned : (engine_in old).leases ≡ []) (js : List Job) (s : EngineState) (h : AreLent old js s) where
   abbrev start : PlainEngine
   start = engine_in old
 
@@ -286,13 +286,13 @@ module _ (old : State) (sound : IsSound old) (returned : (engine_in old).leases 
   all_few quota js2 many ran = few_turns quota js js2 many ran
 
 -- ALL ARE HOME
-pub home_all : (e : PlainEngine) (rows : ℕ) (s : State) (out : AreOut e rows [] s) → engine_in s ≡ e
+pub home_all : (e : PlainEngine) (rows : ℕ) (s : EngineState) (out : AreOut e rows [] s) → engine_in s ≡ e
 home_all e rows s out = out.is ∙ ap (λ qs. record e { queries = qs }) (none out.outs out.each out.placed) where
   none : (os : List Out) → AreBrought e rows os [] → placed os (engine_in s).queries ≡ e.queries → (engine_in s).queries ≡ e.queries
   none [] each same = same
   none (o ∷ os) each same = absurd each
 
-pub home_sound : (e : PlainEngine) (rows : ℕ) (s : State) → AreOut e rows [] s → IsSound s
+pub home_sound : (e : PlainEngine) (rows : ℕ) (s : EngineState) → AreOut e rows [] s → IsSound s
 home_sound e rows s out =
     let same : engine_in s ≡ e = home_all e rows s out in
     record {
@@ -318,10 +318,10 @@ one_broke rows true false e1 e2 e3 f one two = failed_since rows e1 e2 e3 one tw
 one_broke rows false false e1 e2 e3 f one two = failed_twice rows e1 e2 e3 one two
 one_broke rows b true e1 e2 e3 f one two = absurd (cc)
 
-abbrev pub HaveAll : List Job → State → List Job → State → Bool → Type 0
+abbrev pub HaveAll : List Job → EngineState → List Job → EngineState → Bool → Type 0
 HaveAll jobs old js m b = (e : PlainEngine) (rows : ℕ) → AreOut e rows jobs old → (e2 : PlainEngine) × (AreOut e2 rows js m × HaveComeHome rows b e e2)
 
-module _ (jobs : List Job) (old m w : State) (js rest : List Job) (job : Job) (b r : Bool) (popped : js ≡ rest ++ job ∷ [])
+module _ (jobs : List Job) (old m w : EngineState) (js rest : List Job) (job : Job) (b r : Bool) (popped : js ≡ rest ++ job ∷ [])
     (home : (e : PlainEngine) (rows : ℕ) (rest : List Job) → AreOut e rows (rest ++ job ∷ []) m → (e2 : PlainEngine) × (AreOut e2 rows rest w × HaveComeHome rows r e e2)) where
   pub some_home : (e : PlainEngine) × ((rows : ℕ) × AreOut e rows js m) → (e : PlainEngine) × ((rows : ℕ) × AreOut e rows rest w)
   some_home h = let a = home h.0 h.1.0 rest (subst (λ z. AreOut h.0 h.1.0 z m) popped h.1.1) in (a.0, (h.1.0, a.1.0))
@@ -339,13 +339,13 @@ module _ (jobs : List Job) (old m w : State) (js rest : List Job) (job : Job) (b
       (c.0, (c.1.0, one_broke rows b r e a.0 c.0 f a.1.1 c.1.1))
 
 -- THE NUMBERS that their turns took
-abbrev pub TookFew : List Job → State → List Job → State → Type 0
+abbrev pub TookFew : List Job → EngineState → List Job → EngineState → Type 0
 TookFew jobs old js m = (n : ℕ) → HaveFewTurns n jobs → HaveFewTurns n js × (m.next + length js * n ≤ old.next + length jobs * n)
 
-pub none_took : (jobs : List Job) (old : State) → TookFew jobs old jobs old
+pub none_took : (jobs : List Job) (old : EngineState) → TookFew jobs old jobs old
 none_took jobs old n few = (few, omega arith)
 
-pub one_took : (jobs : List Job) (old m w : State) (js rest : List Job) (job : Job) → js ≡ rest ++ job ∷ [] → w.next ≡ m.next + job.turns → TookFew jobs old js m → TookFew jobs old rest w
+pub one_took : (jobs : List Job) (old m w : EngineState) (js rest : List Job) (job : Job) → js ≡ rest ++ job ∷ [] → w.next ≡ m.next + job.turns → TookFew jobs old js m → TookFew jobs old rest w
 one_took jobs old m w js rest job popped next h n few =
     let r = h n few in
     let apart = all_front (λ (j : Job). j.turns ≤ n) rest job (subst (HaveFewTurns n) popped r.0) in
@@ -355,7 +355,7 @@ one_took jobs old m w js rest job popped next h n few =
     adds : (a b n s t turns all : ℕ) → b ≡ a + 1 → t ≡ s + turns → turns ≤ n → s + b * n ≤ all → t + a * n ≤ all
     adds a b n s t turns all many next few h = let more : (a + 1) * n ≡ a * n + n = omega arith in let was : b * n ≡ (a + 1) * n = ap (λ z. z * n) many in omega (arith, next, few, h, more, was)
 
-pub all_took : (jobs : List Job) (old m : State) (js : List Job) → length js ≡ 0 → TookFew jobs old js m → (n : ℕ) → HaveFewTurns n jobs → m.next ≤ old.next + length jobs * n
+pub all_took : (jobs : List Job) (old m : EngineState) (js : List Job) → length js ≡ 0 → TookFew jobs old js m → (n : ℕ) → HaveFewTurns n jobs → m.next ≤ old.next + length jobs * n
 all_took jobs old m js none h n few =
     let r = h n few in
     let was : length js * n ≡ 0 * n = ap (λ z. z * n) none in
@@ -367,23 +367,23 @@ none_left : (js : List Job) → length js ≡ 0 → js ≡ []
 none_left [] h = refl
 none_left (j ∷ js) h = absurd (omega (arith, h))
 
-pub ends_sound : (js : List Job) (m : State) → length js ≡ 0 → (e : PlainEngine) × ((rows : ℕ) × AreOut e rows js m) → IsSound m
+pub ends_sound : (js : List Job) (m : EngineState) → length js ≡ 0 → (e : PlainEngine) × ((rows : ℕ) × AreOut e rows js m) → IsSound m
 ends_sound js m none h = home_sound h.0 h.1.0 m (subst (λ z. AreOut h.0 h.1.0 z m) (none_left js none) h.1.1)
 
-pub ends_done : (jobs : List Job) (old m : State) (js : List Job) (b : Bool) → length js ≡ 0 → b ≡ true → HaveAll jobs old js m b → (e : PlainEngine) (rows : ℕ) → AreOut e rows jobs old → SomeWereDone rows e (engine_in m)
+pub ends_done : (jobs : List Job) (old m : EngineState) (js : List Job) (b : Bool) → length js ≡ 0 → b ≡ true → HaveAll jobs old js m b → (e : PlainEngine) (rows : ℕ) → AreOut e rows jobs old → SomeWereDone rows e (engine_in m)
 ends_done jobs old m js b none t h e rows out =
     let a = h e rows out in
     let same : engine_in m ≡ a.0 = home_all a.0 rows m (subst (λ z. AreOut a.0 rows z m) (none_left js none) a.1.0) in
     subst (SomeWereDone rows e) (sym same) (subst (λ z. HaveComeHome rows z e a.0) t a.1.1)
 
-pub ends_failed : (jobs : List Job) (old m : State) (js : List Job) (b : Bool) → length js ≡ 0 → b ≡ false → HaveAll jobs old js m b → (e : PlainEngine) (rows : ℕ) → AreOut e rows jobs old → SomeHaveFailed rows e (engine_in m)
+pub ends_failed : (jobs : List Job) (old m : EngineState) (js : List Job) (b : Bool) → length js ≡ 0 → b ≡ false → HaveAll jobs old js m b → (e : PlainEngine) (rows : ℕ) → AreOut e rows jobs old → SomeHaveFailed rows e (engine_in m)
 ends_failed jobs old m js b none f h e rows out =
     let a = h e rows out in
     let same : engine_in m ≡ a.0 = home_all a.0 rows m (subst (λ z. AreOut a.0 rows z m) (none_left js none) a.1.0) in
     subst (SomeHaveFailed rows e) (sym same) (subst (λ z. HaveComeHome rows z e a.0) f a.1.1)
 
 -- WHAT IS ASKED of each that is lent: its query is there
-pub lends_within : (old s : State) (js : List Job) (k : ℕ) (d : Job) → k < length js → ArePartlyLent old js k s → (get_or js k d).query < length s.remains.items
+pub lends_within : (old s : EngineState) (js : List Job) (k : ℕ) (d : Job) → k < length js → ArePartlyLent old js k s → (get_or js k d).query < length s.remains.items
 lends_within old s js k d lt h =
     let of : IsJobOf (engine_in old) (get_or js k d) = (first_left (IsNewJob (engine_in old)) js k d lt h.left).0.of in
     let here : (get_or js k d).query < length old.remains.items = item_within old.remains.items (get_or js k d).query of.plain of.running in

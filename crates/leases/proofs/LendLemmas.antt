@@ -17,7 +17,7 @@ use Rattle.leases.specs.Readers.{runs}
 use Rattle.leases.specs.Shown.{engine_in}
 use Rattle.leases.specs.Sound.{IsSound}
 use Rattle.leases.specs.Views.{remains_of}
-use Rattle.leases.specs.declared.state.State.{State}
+use Rattle.leases.specs.declared.state.EngineState.{EngineState}
 use Rattle.leases.specs.declared.state.jobs.Job.{Job}
 use Rattle.leases.proofs.OutLemmas.{item_within}
 
@@ -32,7 +32,7 @@ runs_here (Running p) t = (p, refl)
 runs_here (Broken answers upto) t = absurd (cc)
 runs_here Dropped t = absurd (cc)
 
-module _ (s : State) (n : ℕ) (sound : IsSound s) (runs_there : IsRunningAt (engine_in s) n) where
+module _ (s : EngineState) (n : ℕ) (sound : IsSound s) (runs_there : IsRunningAt (engine_in s) n) where
   abbrev e : PlainEngine
   e = engine_in s
 

@@ -22,17 +22,17 @@ use Rattle.leases.specs.declared.reach.Reach.{Reach}
 use Rattle.leases.specs.declared.remains.Remains.{Remains}
 use Rattle.leases.specs.declared.remains.Remains.TheVariants as code
 use Rattle.leases.specs.declared.registered.Registration.{Registration}
-use Rattle.leases.specs.declared.state.State.{State}
+use Rattle.leases.specs.declared.state.EngineState.{EngineState}
 
 -- where a drop is accepted, so is a take
 take_too : (o : Option Registered) → of_query [] o ≡ None → of_query (take_tests (pos 1)) o ≡ None
 take_too None h = absurd (cc)
 take_too (Some q) h = refl
 
-pub registered_there : (s : State) (n : ℕ) → first_fault (engine_in s).machine (Drop n) ≡ None → n < length s.registered.items
+pub registered_there : (s : EngineState) (n : ℕ) → first_fault (engine_in s).machine (Drop n) ≡ None → n < length s.registered.items
 registered_there s n h = registered_within s n (pos 1) (take_too (machine.query_at (engine_in s).machine n) h)
 
-module _ (s : State) (n : ℕ) (r : Registration) (x : Remains) (p : PlainQuery) (sound : IsSound s) (accepted : first_fault (engine_in s).machine (Drop n) ≡ None) (is_registered : r ≡ get_or s.registered.items n r) (is_remains : x ≡ get_or s.remains.items n x)
+module _ (s : EngineState) (n : ℕ) (r : Registration) (x : Remains) (p : PlainQuery) (sound : IsSound s) (accepted : first_fault (engine_in s).machine (Drop n) ≡ None) (is_registered : r ≡ get_or s.registered.items n r) (is_remains : x ≡ get_or s.remains.items n x)
     (runs : x ≡ code.Running p) where
   takes : first_fault (engine_in s).machine (Take n (pos 1)) ≡ None
   takes = take_too (machine.query_at (engine_in s).machine n) accepted
@@ -61,18 +61,18 @@ module _ (s : State) (n : ℕ) (r : Registration) (x : Remains) (p : PlainQuery)
       subst (λ i. log_of (engine_in s).machine.streams p i ≡ log_at (engine_in s).machine q i) e ((may_ask (engine_in s) sound.good).logs n j q p (operator j q at within)))
       ∙ sym (ap (lengths_in (engine_in s).machine q) running)
 
-pub operators_there : (s : State) (n : ℕ) (r : Registration) (x : Remains) (p : PlainQuery) → IsSound s → first_fault (engine_in s).machine (Drop n) ≡ None → r ≡ get_or s.registered.items n r → x ≡ get_or s.remains.items n x → x ≡ code.Running p
+pub operators_there : (s : EngineState) (n : ℕ) (r : Registration) (x : Remains) (p : PlainQuery) → IsSound s → first_fault (engine_in s).machine (Drop n) ≡ None → r ≡ get_or s.registered.items n r → x ≡ get_or s.remains.items n x → x ≡ code.Running p
     → (k : ℕ) → k < length (arc_value r.plan).nodes.items → HasOperator s.streams p k
 operators_there s n r x p sound accepted is_registered is_remains runs k within = there s n r x p sound accepted is_registered is_remains runs k within
 
-pub lengths_are : {A E : Type 0} (view : A → List ℕ) (found : Result A E) (s : State) (n : ℕ) (r : Registration) (x : Remains) (p : PlainQuery) → IsSound s → first_fault (engine_in s).machine (Drop n) ≡ None → r ≡ get_or s.registered.items n r
+pub lengths_are : {A E : Type 0} (view : A → List ℕ) (found : Result A E) (s : EngineState) (n : ℕ) (r : Registration) (x : Remains) (p : PlainQuery) → IsSound s → first_fault (engine_in s).machine (Drop n) ≡ None → r ≡ get_or s.registered.items n r
     → x ≡ get_or s.remains.items n x → x ≡ code.Running p → IfOk found (λ v. view v ≡ lengths_from (log_of s.streams p) p 0 (nodes_of (arc_value r.plan).nodes.items))
     → IfOk found (λ v. (q : Registered) → query_at (engine_in s) n ≡ Some q → view v ≡ lengths_in (engine_in s).machine q (remains_at (engine_in s) n))
 lengths_are view (Ok v) s n r x p sound accepted is_registered is_remains runs h = λ q at. h ∙ lengths s n r x p sound accepted is_registered is_remains runs q at
 lengths_are view (Err f) s n r x p sound accepted is_registered is_remains runs h = tt
 
 -- IN THOSE OF A BROKEN QUERY nothing does
-pub noughts_are : {A E : Type 0} (view : A → List ℕ) (found : Result A E) (s : State) (n : ℕ) (r : Registration) (x : Remains) (answers : List (ℕ × Row)) (reach : Reach) → IsSound s → first_fault (engine_in s).machine (Drop n) ≡ None → r ≡ get_or s.registered.items n r
+pub noughts_are : {A E : Type 0} (view : A → List ℕ) (found : Result A E) (s : EngineState) (n : ℕ) (r : Registration) (x : Remains) (answers : List (ℕ × Row)) (reach : Reach) → IsSound s → first_fault (engine_in s).machine (Drop n) ≡ None → r ≡ get_or s.registered.items n r
     → x ≡ get_or s.remains.items n x → x ≡ code.Broken answers reach → IfOk found (λ v. view v ≡ noughts_of (nodes_of (arc_value r.plan).nodes.items))
     → IfOk found (λ v. (q : Registered) → query_at (engine_in s) n ≡ Some q → view v ≡ lengths_in (engine_in s).machine q (remains_at (engine_in s) n))
 noughts_are view (Ok v) s n r x answers reach sound accepted is_registered is_remains broke h = λ q at.

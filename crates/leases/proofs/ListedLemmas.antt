@@ -13,19 +13,19 @@ use Rattle.laws_engine.specs.Calls.{is_reading}
 use Rattle.laws_engine.specs.Engines.{Dropped, IsIn, PlainEngine, PlainRemains, Running}
 use Rattle.laws_engine.specs.Resting.{IsResting}
 use Rattle.leases.specs.Readers.{reader, reader_in, readers_from, readers_of, runs, windows_from}
-use Rattle.leases.specs.declared.reader.Reader.{Reader}
+use Rattle.leases.specs.declared.reader.WindowReader.{WindowReader}
 
 -- A WINDOW of a query that runs is listed
-in_left : (xs ys : List Reader) (x : Reader) → IsIn xs x → IsIn (xs ++ ys) x
+in_left : (xs ys : List WindowReader) (x : WindowReader) → IsIn xs x → IsIn (xs ++ ys) x
 in_left [] ys x h = absurd h
 in_left (y ∷ xs) ys x (inl e) = inl e
 in_left (y ∷ xs) ys x (inr i) = inr (in_left xs ys x i)
 
-in_right : (xs ys : List Reader) (x : Reader) → IsIn ys x → IsIn (xs ++ ys) x
+in_right : (xs ys : List WindowReader) (x : WindowReader) → IsIn ys x → IsIn (xs ++ ys) x
 in_right [] ys x h = h
 in_right (y ∷ xs) ys x h = inr (in_right xs ys x h)
 
-first_in : (q : Registered) (s n k : ℕ) (node : plan.Node) (rest : List Reader) → is_reading q s node ≡ true → IsIn (option_to_list (reader_in q n k node) ++ rest) (reader s n k)
+first_in : (q : Registered) (s n k : ℕ) (node : plan.Node) (rest : List WindowReader) → is_reading q s node ≡ true → IsIn (option_to_list (reader_in q n k node) ++ rest) (reader s n k)
 first_in q s n k (plan.Window j) rest h = inl (ap (λ z. reader z n k) (eqb-true (place_of q j).stream s h))
 first_in q s n k (plan.Select i cs) rest h = absurd (cc)
 first_in q s n k (plan.Join i j ks) rest h = absurd (cc)
@@ -87,7 +87,7 @@ readers_changed f places nodes m zero (q ∷ qs) (b ∷ bs) =
 readers_changed f places nodes m (suc n) (q ∷ qs) (b ∷ bs) = ap (λ rs. cond b (windows_from q m 0 q.nodes) [] ++ rs) (readers_changed f places nodes (suc m) n qs bs)
 
 -- THE WINDOWS of a query that breaks or is dropped leave
-abbrev is_other : ℕ → Reader → Bool
+abbrev is_other : ℕ → WindowReader → Bool
 is_other x r = not (r.query == x)
 
 reader_stays : (q : Registered) (n x k : ℕ) (node : plan.Node) → (n == x) ≡ false → filter (is_other x) (option_to_list (reader_in q n k node)) ≡ option_to_list (reader_in q n k node)
@@ -121,11 +121,11 @@ windows_leave q n x k (node ∷ nodes) t =
     ∙ ap₂ (λ a b. a ++ b) (reader_leaves q n x k node t) (windows_leave q n x (suc k) nodes t)
 
 -- those of a query that runs, and none of another
-if_stay : (x : ℕ) (ws : List Reader) (b : Bool) → filter (is_other x) ws ≡ ws → filter (is_other x) (cond b ws []) ≡ cond b ws []
+if_stay : (x : ℕ) (ws : List WindowReader) (b : Bool) → filter (is_other x) ws ≡ ws → filter (is_other x) (cond b ws []) ≡ cond b ws []
 if_stay x ws true h = h
 if_stay x ws false h = refl
 
-if_leave : (x : ℕ) (ws : List Reader) (b : Bool) → filter (is_other x) ws ≡ [] → filter (is_other x) (cond b ws []) ≡ []
+if_leave : (x : ℕ) (ws : List WindowReader) (b : Bool) → filter (is_other x) ws ≡ [] → filter (is_other x) (cond b ws []) ≡ []
 if_leave x ws true h = h
 if_leave x ws false h = refl
 
@@ -137,7 +137,7 @@ later_stay x m (q ∷ qs) (b ∷ bs) l =
     filter-append (is_other x) (cond b (windows_from q m 0 q.nodes) []) (readers_from (suc m) qs bs)
     ∙ ap₂ (λ a b. a ++ b) (if_stay x (windows_from q m 0 q.nodes) b (windows_stay q m x 0 q.nodes other)) (later_stay x (suc m) qs bs (omega (arith, l)))
 
-pub readers_left : (x m n : ℕ) (qs : List Registered) (bs : List Bool) → x ≡ m + n → filter (λ (r : Reader). not (r.query == x)) (readers_from m qs bs) ≡ readers_from m qs (set bs n false)
+pub readers_left : (x m n : ℕ) (qs : List Registered) (bs : List Bool) → x ≡ m + n → filter (λ (r : WindowReader). not (r.query == x)) (readers_from m qs bs) ≡ readers_from m qs (set bs n false)
 readers_left x m n [] bs at = refl
 readers_left x m zero (q ∷ qs) [] at = refl
 readers_left x m (suc n) (q ∷ qs) [] at = refl
@@ -163,7 +163,7 @@ readers_added m x (r ∷ qs) (k ∷ ks) q p at many =
     ∙ sym (append_assoc (cond (runs k) (windows_from r m 0 r.nodes) []) (readers_from (suc m) qs (map runs ks)) (windows_from q x 0 q.nodes))
 
 -- one after the other
-pub windows_next : (q : Registered) (n k : ℕ) (mid new all : List Reader) → k < length q.nodes → mid ++ windows_from q n k (drop k q.nodes) ≡ all → new ≡ mid ++ option_to_list (reader_in q n k (node_at q k))
+pub windows_next : (q : Registered) (n k : ℕ) (mid new all : List WindowReader) → k < length q.nodes → mid ++ windows_from q n k (drop k q.nodes) ≡ all → new ≡ mid ++ option_to_list (reader_in q n k (node_at q k))
     → new ++ windows_from q n (k + 1) (drop (k + 1) q.nodes) ≡ all
 windows_next q n k mid new all lt before is =
     let one : k + 1 ≡ suc k = omega arith in
@@ -174,5 +174,5 @@ windows_next q n k mid new all lt before is =
     ∙ ap (λ z. mid ++ windows_from q n k z) (sym front)
     ∙ before
 
-pub windows_end : (q : Registered) (n k : ℕ) (mid all : List Reader) → length q.nodes ≤ k → mid ++ windows_from q n k (drop k q.nodes) ≡ all → mid ≡ all
+pub windows_end : (q : Registered) (n k : ℕ) (mid all : List WindowReader) → length q.nodes ≤ k → mid ++ windows_from q n k (drop k q.nodes) ≡ all → mid ≡ all
 windows_end q n k mid all l h = sym (append-nil mid) ∙ ap (λ z. mid ++ windows_from q n k z) (sym (drop_all k q.nodes l)) ∙ h

@@ -19,10 +19,10 @@ use Rattle.leases.specs.Sound.{IsSound}
 use Rattle.leases.specs.Views.{query_of, remains_of}
 use Rattle.leases.specs.declared.registered.Registration.{Registration}
 use Rattle.leases.specs.declared.remains.Remains.{Remains}
-use Rattle.leases.specs.declared.state.State.{State}
+use Rattle.leases.specs.declared.state.EngineState.{EngineState}
 
 -- EACH HAS ITS MARK
-module _ (s : State) (h : IsSound s) where
+module _ (s : EngineState) (h : IsSound s) where
   abbrev e : PlainEngine
   e = engine_in s
 
@@ -52,7 +52,7 @@ running_within [] n p h = absurd (cc)
 running_within (k ∷ ks) zero p h = omega arith
 running_within (k ∷ ks) (suc n) p h = omega (arith, running_within ks n p h)
 
-module _ (s : State) (n : ℕ) (marks : AreMarkable s.registered.items s.remains.items) (runs : IsRunningAt (engine_in s) n) (q : Registration) (k : Remains) (here : q ≡ get_or s.registered.items n q) (left : k ≡ get_or s.remains.items n k) where
+module _ (s : EngineState) (n : ℕ) (marks : AreMarkable s.registered.items s.remains.items) (runs : IsRunningAt (engine_in s) n) (q : Registration) (k : Remains) (here : q ≡ get_or s.registered.items n q) (left : k ≡ get_or s.remains.items n k) where
   within : n < length s.remains.items
   within = running_within s.remains.items n runs.0 runs.1
 

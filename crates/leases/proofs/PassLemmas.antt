@@ -31,7 +31,7 @@ use Rattle.leases.specs.Shown.{engine_in}
 use Rattle.leases.specs.Sound.{IsSound, is_gone}
 use Rattle.leases.specs.Views.{lease_of}
 use Rattle.leases.specs.declared.limits.TheConstants.{LEASE_NUMBERS}
-use Rattle.leases.specs.declared.state.State.{State}
+use Rattle.leases.specs.declared.state.EngineState.{EngineState}
 use Rattle.leases.proofs.BeatLemmas.{in_either, in_left, in_right, next_is}
 use Rattle.leases.proofs.EachLemmas.{ArePartly, HasOne, each_told}
 use Rattle.leases.proofs.FinishSoundLemmas.{StaysBut, sound_from}
@@ -68,7 +68,7 @@ look_at e n k r h running lt =
     let within : k < length h.plain.operators = let is : length h.plain.operators ≡ length r.operators = ap (λ (z : PlainQuery). length z.operators) same in omega (arith, is, lt) in
     (h.query, (h.plain, h.each k within))
 
-module _ (s : State) (x : Slot) (sound : IsSound s) (first : first_of s.slots ≡ Some x) where
+module _ (s : EngineState) (x : Slot) (sound : IsSound s) (first : first_of s.slots ≡ Some x) where
   abbrev pub e : PlainEngine
   e = engine_in s
 
@@ -115,7 +115,7 @@ module _ (s : State) (x : Slot) (sound : IsSound s) (first : first_of s.slots �
     may_pass = (p, (top.running, λ k lt. (h.start, (may.each k lt).quiet)))
 
     -- IT HAS PASSED
-    module _ (m : State) (passed : HasPassedIn e n b (engine_in m)) (rest : GivesNothing s m) where
+    module _ (m : EngineState) (passed : HasPassedIn e n b (engine_in m)) (rest : GivesNothing s m) where
       went : (p2 : PlainQuery) × (HavePassed b p p2 × (engine_in m ≡ with_remains e n (Running p2)))
       went = passed p top.running
 
@@ -216,7 +216,7 @@ module _ (s : State) (x : Slot) (sound : IsSound s) (first : first_of s.slots �
           (asks_on (record e2 { slots = told_slots }) e2.leases e2.next e2.slots y.query y.operator (asks (record e2 { slots = told_slots }) told_good y.query y.operator o.query r.0 o.registered r.1 o.within)))
 
       -- THEY ARE TOLD
-      module _ (new : State) (tells : new ≡ with_slots (counted m) (with_updates (engine_in (counted m)) slots m.slots)) where
+      module _ (new : EngineState) (tells : new ≡ with_slots (counted m) (with_updates (engine_in (counted m)) slots m.slots)) where
         engine_is : engine_in new ≡ record e2 { slots = told_slots }
         engine_is = ap engine_in tells ∙ ap (λ (z : PlainEngine). record z { slots = with_updates z slots z.slots }) is_e2
 
@@ -228,10 +228,10 @@ module _ (s : State) (x : Slot) (sound : IsSound s) (first : first_of s.slots �
 
         pub sound_new : s.next < LEASE_NUMBERS → IsSound new
         sound_new lt = sound_from (counted s) new (counted_sound s sound lt)
-            (ap (λ (z : State). z.undropped) tells ∙ rest.undropped)
-            (ap (λ (z : State). z.readers.items) tells ∙ rest.readers ∙ sound.readers
+            (ap (λ (z : EngineState). z.undropped) tells ∙ rest.undropped)
+            (ap (λ (z : EngineState). z.readers.items) tells ∙ rest.readers ∙ sound.readers
             ∙ ap (readers_from 0 e.machine.queries) (sym (map-set_same runs e.queries n (Running p2) Dropped (sym (ap runs top.running)))) ∙ ap readers_of (sym engine_is))
-            (λ g i. rest.leases g (subst (λ (z : State). IsIn z.leases.items g) tells i))
+            (λ g i. rest.leases g (subst (λ (z : EngineState). IsIn z.leases.items g) tells i))
             (subst GoodEngine (sym engine_is) told_good)
             (record {
               machine = ap (λ (z : PlainEngine). z.machine) engine_is;

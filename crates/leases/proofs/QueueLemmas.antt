@@ -14,7 +14,7 @@ use Rattle.laws_engine.specs.Calls.{appended}
 use Rattle.laws_engine.specs.Engines.{Broken, Dropped, PlainEngine, PlainRemains, Running, query_at, remains_at, world_of}
 use Rattle.leases.specs.Queues.{LeavesQueues, queue_in}
 use Rattle.leases.specs.Shown.{engine_in}
-use Rattle.leases.specs.declared.state.State.{State}
+use Rattle.leases.specs.declared.state.EngineState.{EngineState}
 use Rattle.leases.proofs.StreamLemmas.{append_changes, append_changes_not, over_streams}
 
 leaves_all : (e : PlainEngine) → LeavesQueues e e
@@ -39,7 +39,7 @@ was_accepted : (old next new : World) (first : Option Fault) (a : ⊤) → Does 
 was_accepted old next new None a h = refl
 was_accepted old next new (Some f) a h = absurd (let g : Err f ≡ Ok a = ap (λ (s : Step ⊤). s.0) h in cc)
 
-module _ (s : State) (streams : List Stream) (n : ℕ) (rows : List (ℤ × List (Option ℤ))) where
+module _ (s : EngineState) (streams : List Stream) (n : ℕ) (rows : List (ℤ × List (Option ℤ))) where
   pub append_leaves_queues : (r : Result ⊤ Fault) → Does (λ (u : ⊤). u) (world_of (engine_in s)) (append_step (world_of (engine_in s)) n rows) r (world_of (over_streams (engine_in s) streams)) → LeavesQueues (engine_in s) (over_streams (engine_in s) streams)
   unfolding append_step
   append_leaves_queues (Ok a) d =

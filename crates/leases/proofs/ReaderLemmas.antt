@@ -32,7 +32,7 @@ use Rattle.leases.specs.Shown.{engine_in}
 use Rattle.leases.specs.Views.{query_of, remains_of}
 use Rattle.leases.specs.declared.remains.Remains.{Remains}
 use Rattle.leases.specs.declared.registered.Registration.{Registration}
-use Rattle.leases.specs.declared.state.State.{State}
+use Rattle.leases.specs.declared.state.EngineState.{EngineState}
 
 -- THE SOURCE of a window of a running query is one of the query's
 source_in : (q : Registered) (log : Closed) (node : plan.Node) (i : Inbox) → IsLeftInbox q log node i → HasSource q node
@@ -152,11 +152,11 @@ all_next P ss k s lt is h =
     subst (AllByRecursion P) (drop-cons ss k s lt ∙ ap (λ x. x ∷ drop (suc k) ss) (sym is) ∙ ap (λ i. s ∷ drop i ss) one) h
 
 -- other slots change no operator
-pub asked_over : (s : State) (slots : List Slot) (n k : ℕ) → HasOperatorAt (engine_in s) n k → HasOperatorAt (engine_in (with_slots s slots)) n k
+pub asked_over : (s : EngineState) (slots : List Slot) (n k : ℕ) → HasOperatorAt (engine_in s) n k → HasOperatorAt (engine_in (with_slots s slots)) n k
 asked_over s slots n k h =
     let is = h.1.1 in
     (h.0, (h.1.0, record { registered = is.registered; running = is.running; within = is.within; operator = is.operator; log = is.log }))
 
 -- the state after one slot more is told
-pub told_over : (s0 s s2 : State) (slot : Slot) → s ≡ with_slots s0 s.slots → s2 ≡ with_slots s (with_update (engine_in s) slot s.slots) → s2 ≡ with_slots s0 (with_update (engine_in s0) slot s.slots)
-told_over s0 s s2 slot same tells = tells ∙ ap (λ (z : State). with_slots z (with_update (engine_in z) slot s.slots)) same
+pub told_over : (s0 s s2 : EngineState) (slot : Slot) → s ≡ with_slots s0 s.slots → s2 ≡ with_slots s (with_update (engine_in s) slot s.slots) → s2 ≡ with_slots s0 (with_update (engine_in s0) slot s.slots)
+told_over s0 s s2 slot same tells = tells ∙ ap (λ (z : EngineState). with_slots z (with_update (engine_in z) slot s.slots)) same

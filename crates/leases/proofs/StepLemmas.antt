@@ -2,7 +2,7 @@
 use Rattle.std.proofs.Common.{◌≡◌, ◌≢◌, ◌<◌, ◌≤◌, ◌+◌, ◌++◌, ◌==◌, ◌||◌, ℕ, Bool, not, true, false, inl, inr, MatchOption, Option, Some, None, List, [], ◌∷◌, length, refl, sym, ap, ◌∙◌, subst, arith, eq-eqb}
 use Rattle.std.specs.List.{list_any}
 use Rattle.op_queue.specs.declared.item.Item.TheVariants.{Tick}
-use Rattle.turn.specs.declared.excerpts.Near.TheVariants.{Nothing}
+use Rattle.turn.specs.declared.excerpts.Excerpt.TheVariants.{Nothing}
 use Rattle.turn.specs.declared.turns.Turn.{Turn}
 use Rattle.plan.proofs.Lists.{by_test}
 use Rattle.reference.specs.Machine.{Registered}
@@ -26,7 +26,7 @@ use Rattle.leases.specs.Sound.{IsSound}
 use Rattle.leases.specs.Turns.{IsTurnOf, lease_fault}
 use Rattle.leases.specs.Views.{lease_of}
 use Rattle.leases.specs.declared.limits.TheConstants.{LEASE_NUMBERS}
-use Rattle.leases.specs.declared.state.State.{State}
+use Rattle.leases.specs.declared.state.EngineState.{EngineState}
 use Rattle.leases.proofs.DrainLemmas as drain
 use Rattle.leases.proofs.FinishBackLemmas.{AreSteps, has_come_back, sound_ended, tells_here, tells_over}
 use Rattle.leases.proofs.FinishLemmas.{below_of, is_at, to_later, wired_operators}
@@ -38,7 +38,7 @@ use Rattle.leases.proofs.StandLemmas.{over_stands, stands_in}
 use Rattle.leases.proofs.UpdateLemmas.{changed_again, changed_leaves}
 
 -- A NUMBER is counted
-abbrev pub counted : State → State
+abbrev pub counted : EngineState → EngineState
 counted s = record s { next = s.next + 1 }
 
 counted_lease : (e : PlainEngine) (l : Lease) → IsLease e l → IsLease (record e { next = e.next + 1 }) l
@@ -69,7 +69,7 @@ counted_good e g = record {
   slots = counted_slots e g.slots;
 }
 
-pub counted_sound : (s : State) → IsSound s → s.next < LEASE_NUMBERS → IsSound (counted s)
+pub counted_sound : (s : EngineState) → IsSound s → s.next < LEASE_NUMBERS → IsSound (counted s)
 counted_sound s h lt = record {
   good = counted_good (engine_in s) h.good;
   kinds = h.kinds;
@@ -99,7 +99,7 @@ above_same None A B s t same h = h
 above_same (Some z) A B s t same h = (h.0, h.1 ∙ same h.0)
 
 -- THE FIRST SLOT is asked for before its turn runs
-module _ (old : State) (s : Slot) (sound : IsSound old) (first : first_of old.slots ≡ Some s) where
+module _ (old : EngineState) (s : Slot) (sound : IsSound old) (first : first_of old.slots ≡ Some s) where
   top : IsOfSteepest (engine_in old) s
   top = (keeps_its_promises (engine_in old) sound.good).steepest s first
 
@@ -121,7 +121,7 @@ module _ (old : State) (s : Slot) (sound : IsSound old) (first : first_of old.sl
   both_stand above over = (stands_in (engine_in old) sound.good s (sound.good.slots.only s (first_in old.slots s first).0), over_stands (engine_in old) any top.query top.plain sound.good of_any above (over top.query top.plain top.registered top.running))
 
 -- ITS TURN, that was run
-module _ (old : State) (s : Slot) (rows : ℕ) (t : Turn) (sound : IsSound old) (first : first_of old.slots ≡ Some s) (allowed : lease_fault (engine_in old) rows ≡ None) (numbers : old.next < LEASE_NUMBERS) (made : IsTurnOn (engine_in old) s rows t) where
+module _ (old : EngineState) (s : Slot) (rows : ℕ) (t : Turn) (sound : IsSound old) (first : first_of old.slots ≡ Some s) (allowed : lease_fault (engine_in old) rows ≡ None) (numbers : old.next < LEASE_NUMBERS) (made : IsTurnOn (engine_in old) s rows t) where
   abbrev d : Lease
   d = lease_of t
 
@@ -162,7 +162,7 @@ module _ (old : State) (s : Slot) (rows : ℕ) (t : Turn) (sound : IsSound old) 
   few_left = let same : length (others d.number e1.leases) ≡ length (engine_in old).leases = ap (λ ls. length ls) others_left in omega (arith, same)
 
   -- ITS QUERY BREAKS
-  module _ (new : State) (broke : IsBroken (engine_in (counted old)) d.query (engine_in new)) where
+  module _ (new : EngineState) (broke : IsBroken (engine_in (counted old)) d.query (engine_in new)) where
     slots_leave : without_query d.query old.slots ≡ without_query d.query e1.slots
     slots_leave = subst (λ n. without_query n old.slots ≡ without_query n e1.slots) query_is (sym (changed_leaves (engine_in old) s sound.good there))
 
@@ -257,6 +257,6 @@ module _ (old : State) (s : Slot) (rows : ℕ) (t : Turn) (sound : IsSound old) 
         let home = has_come_back e1 d s.query s.operator d.number (with_next s None) above still good out steps new (ended new h) in
         (Ran t, (e1, (goes, (out.1.1.out, (home.0, (home.1.0, (home.1.1.0, home.1.1.1.1)))))))
 
-    pub ran_sound : (new : State) → HasTold e2 s above (engine_in new) → GivesNothing (counted old) new → IsSound new
+    pub ran_sound : (new : EngineState) → HasTold e2 s above (engine_in new) → GivesNothing (counted old) new → IsSound new
     ran_sound new h r =
         sound_ended (counted old) e1.leases e1.slots d s.query s.operator d.number (with_next s None) above still (counted_sound old sound numbers) good few_left out steps new (ended (engine_in new) h) r

@@ -16,7 +16,7 @@ use Rattle.laws_engine.proofs.AppendedLemmas.{append_good}
 use Rattle.laws_engine.proofs.DeclaredLemmas.{declare_good}
 use Rattle.leases.specs.Shown.{engine_in}
 use Rattle.leases.specs.Sound.{IsSound}
-use Rattle.leases.specs.declared.state.State.{State}
+use Rattle.leases.specs.declared.state.EngineState.{EngineState}
 
 -- WHAT A STEP SAYS: accepted, no test failed; refused, all is as it was
 module _ {A B : Type 0} (view : A → B) (old next : World) (b : B) where
@@ -82,14 +82,14 @@ module _ {A B : Type 0} (view : A → B) (b : B) (e : PlainEngine) (c : Command)
   changes_not (Err f) d = refused f d
 
 -- IT STAYS SOUND
-abbrev pub at_streams : State → List Stream → State
+abbrev pub at_streams : EngineState → List Stream → EngineState
 at_streams s streams = record s { streams = streams }
 
-pub sound_over : (s : State) (streams : List Stream) → IsSound s → GoodEngine (over_streams (engine_in s) streams) → HaveColumnNames (over_streams (engine_in s) streams).machine
+pub sound_over : (s : EngineState) (streams : List Stream) → IsSound s → GoodEngine (over_streams (engine_in s) streams) → HaveColumnNames (over_streams (engine_in s) streams).machine
     → HaveFewClosed (over_streams (engine_in s) streams).machine → IsSound (at_streams s streams)
 sound_over s streams h good columns closed = record { good = good; kinds = λ g i. h.kinds g i; few = h.few; numbers = h.numbers; named = h.named; gone = h.gone; columns = columns; closed = closed; readers = h.readers }
 
-stays_sound : {A B : Type 0} (view : A → B) (b : B) (s : State) (c : Command) (streams : List Stream) → IsSound s → (first_fault (engine_in s).machine c ≡ None → GoodEngine (commanded (engine_in s) c))
+stays_sound : {A B : Type 0} (view : A → B) (b : B) (s : EngineState) (c : Command) (streams : List Stream) → IsSound s → (first_fault (engine_in s).machine c ≡ None → GoodEngine (commanded (engine_in s) c))
     → (r : Result A Fault) → Did view b (engine_in s) c r streams → IsSound (at_streams s streams)
 stays_sound view b s c streams h good (Ok a) d =
     let w = accepted view b (engine_in s) c streams a d in
@@ -100,7 +100,7 @@ stays_sound view b s c streams h good (Err f) d =
     subst (λ (z : List Stream). IsSound (at_streams s z)) (sym (ap (λ (x : PlainEngine). x.machine.streams) (refused view b (engine_in s) c streams f d))) h
 
 -- A DECLARATION
-module _ (s : State) (streams : List Stream) (name : List ℕ) (columns : List (List ℕ)) (start : ℤ) (r : Result ℕ Fault) where
+module _ (s : EngineState) (streams : List Stream) (name : List ℕ) (columns : List (List ℕ)) (start : ℤ) (r : Result ℕ Fault) where
   pub declare_changes : Does (λ (n : ℕ). n) (world_of (engine_in s)) (declare_step (world_of (engine_in s)) name columns start) r (world_of (over_streams (engine_in s) streams)) → OnOk r (over_streams (engine_in s) streams ≡ declared (engine_in s) name columns start)
   unfolding declare_step
   declare_changes d = changes (λ (n : ℕ). n) (length s.streams) (engine_in s) (Declare name columns start) streams r d
@@ -114,7 +114,7 @@ module _ (s : State) (streams : List Stream) (name : List ℕ) (columns : List (
   declare_sound h d = stays_sound (λ (n : ℕ). n) (length s.streams) s (Declare name columns start) streams h (λ ok. declare_good (engine_in s) name columns start h.good ok) r d
 
 -- AN APPEND
-module _ (s : State) (streams : List Stream) (n : ℕ) (rows : List (ℤ × List (Option ℤ))) (r : Result ⊤ Fault) where
+module _ (s : EngineState) (streams : List Stream) (n : ℕ) (rows : List (ℤ × List (Option ℤ))) (r : Result ⊤ Fault) where
   pub append_changes : Does (λ (u : ⊤). u) (world_of (engine_in s)) (append_step (world_of (engine_in s)) n rows) r (world_of (over_streams (engine_in s) streams)) → OnOk r (over_streams (engine_in s) streams ≡ appended (engine_in s) n rows)
   unfolding append_step
   append_changes d = changes (λ (u : ⊤). u) tt (engine_in s) (Append n rows) streams r d

@@ -37,7 +37,7 @@ use Rattle.turn.specs.declared.turns.Turn.{Turn}
 use Rattle.leases.specs.declared.remains.Remains.{Remains}
 use Rattle.leases.specs.declared.limits.TheConstants.{LEASE_NUMBERS, MAX_LEASES}
 use Rattle.leases.specs.declared.registered.Registration.{Registration}
-use Rattle.leases.specs.declared.state.State.{State}
+use Rattle.leases.specs.declared.state.EngineState.{EngineState}
 
 -- THE LIMIT of a take that is accepted is no negative number
 take_refused : (tests : List (Bool × Fault)) (o : Option Registered) → of_query tests o ≡ None → first_of tests ≡ None
@@ -64,23 +64,23 @@ there tests (q ∷ qs) (suc n) h = there tests qs n h
 pub query_there : (e : PlainEngine) (n : ℕ) (limit : ℤ) → first_fault e.machine (Take n limit) ≡ None → (q : Registered) × ((query_at e n ≡ Some q) × (q.is_dropped ≡ false))
 query_there e n limit h = there (take_tests limit) e.machine.queries n h
 
-pub registered_within : (s : State) (n : ℕ) (limit : ℤ) → first_fault (engine_in s).machine (Take n limit) ≡ None → n < length s.registered.items
+pub registered_within : (s : EngineState) (n : ℕ) (limit : ℤ) → first_fault (engine_in s).machine (Take n limit) ≡ None → n < length s.registered.items
 registered_within s n limit h =
     let q = query_there (engine_in s) n limit h in
     let within : n < length (map query_of s.registered.items) = slice_get_within (engine_in s).machine.queries n q.0 q.1.0 in
     subst (λ z. n < z) (length-map s.registered.items query_of) within
 
-pub remains_within : (s : State) (n : ℕ) (limit : ℤ) → IsSound s → first_fault (engine_in s).machine (Take n limit) ≡ None → n < length s.remains.items
+pub remains_within : (s : EngineState) (n : ℕ) (limit : ℤ) → IsSound s → first_fault (engine_in s).machine (Take n limit) ≡ None → n < length s.remains.items
 remains_within s n limit sound h =
     let a : n < length s.registered.items = registered_within s n limit h in
     let b : length (map remains_of s.remains.items) ≡ length (map query_of s.registered.items) = sound.good.many in
     omega (arith, a, b, length-map s.remains.items remains_of, length-map s.registered.items query_of)
 
 -- what is left of it
-pub remains_is : (s : State) (n : ℕ) (x : Remains) → n < length s.remains.items → x ≡ get_or s.remains.items n x → remains_at (engine_in s) n ≡ remains_of x
+pub remains_is : (s : EngineState) (n : ℕ) (x : Remains) → n < length s.remains.items → x ≡ get_or s.remains.items n x → remains_at (engine_in s) n ≡ remains_of x
 remains_is s n x within is = get_or-map remains_of s.remains.items n x Dropped within ∙ ap remains_of (sym is)
 
-pub signed_at : (s : State) (n : ℕ) (limit : ℤ) (x : Remains) → IsSound s → first_fault (engine_in s).machine (Take n limit) ≡ None → x ≡ get_or s.remains.items n x → are_signed (answers_in (remains_of x)) ≡ true
+pub signed_at : (s : EngineState) (n : ℕ) (limit : ℤ) (x : Remains) → IsSound s → first_fault (engine_in s).machine (Take n limit) ≡ None → x ≡ get_or s.remains.items n x → are_signed (answers_in (remains_of x)) ≡ true
 signed_at s n limit x sound h is =
     let q = query_there (engine_in s) n limit h in
     subst (λ k. are_signed (answers_in k) ≡ true) (remains_is s n x (remains_within s n limit sound h) is) (waiting_signed (engine_in s) n q.0 sound.good sound.closed q.1.0)
@@ -91,11 +91,11 @@ slice_at [] n x d h = absurd (cc)
 slice_at (y ∷ xs) zero x d h = cc
 slice_at (y ∷ xs) (suc n) x d h = slice_at xs n x d h
 
-pub taken_at : (s : State) (n : ℕ) (q : Registered) (r : Registration) → n < length s.registered.items → query_at (engine_in s) n ≡ Some q → r ≡ get_or s.registered.items n r → q ≡ query_of r
+pub taken_at : (s : EngineState) (n : ℕ) (q : Registered) (r : Registration) → n < length s.registered.items → query_at (engine_in s) n ≡ Some q → r ≡ get_or s.registered.items n r → q ≡ query_of r
 taken_at s n q r within at is =
     sym (slice_at (map query_of s.registered.items) n q (query_of r) at) ∙ get_or-map query_of s.registered.items n r (query_of r) within ∙ ap query_of (sym is)
 
-pub room_at : (s : State) (n : ℕ) (limit : ℤ) (x : Remains) (r : Registration) (count : ℕ) → IsSound s → first_fault (engine_in s).machine (Take n limit) ≡ None → x ≡ get_or s.remains.items n x → r ≡ get_or s.registered.items n r
+pub room_at : (s : EngineState) (n : ℕ) (limit : ℤ) (x : Remains) (r : Registration) (count : ℕ) → IsSound s → first_fault (engine_in s).machine (Take n limit) ≡ None → x ≡ get_or s.remains.items n x → r ≡ get_or s.registered.items n r
     → count ≤ length (answers_in (remains_of x)) → r.taken + count < 2 ^ 101
 room_at s n limit x r count sound h is_remains is_registered few =
     let q = query_there (engine_in s) n limit h in
@@ -128,14 +128,14 @@ few_handed k limit = omega arith
 abbrev with_remains : PlainEngine → List PlainRemains → PlainEngine
 with_remains e ks = record e { queries = ks }
 
-pub stays : (s : State) (e2 : PlainEngine) (n : ℕ) (x y : Remains) → n < length s.remains.items → x ≡ get_or s.remains.items n x → remains_of y ≡ remains_of x → e2 ≡ with_remains (engine_in s) (map remains_of (set s.remains.items n y)) → e2 ≡ engine_in s
+pub stays : (s : EngineState) (e2 : PlainEngine) (n : ℕ) (x y : Remains) → n < length s.remains.items → x ≡ get_or s.remains.items n x → remains_of y ≡ remains_of x → e2 ≡ with_remains (engine_in s) (map remains_of (set s.remains.items n y)) → e2 ≡ engine_in s
 stays s e2 n x y within is same made = made ∙ ap (with_remains (engine_in s)) (map-set_same remains_of s.remains.items n y x (same ∙ ap remains_of is))
 
 -- after one that hands out answers it is what the take makes of it
 abbrev with_both : PlainEngine → List Registered → List PlainRemains → PlainEngine
 with_both e qs ks = record e { machine = record { streams = e.machine.streams; queries = qs }; queries = ks }
 
-pub is_taken : (s : State) (e2 : PlainEngine) (n : ℕ) (limit : ℤ) (x y : Remains) (r r2 : Registration) (count : ℕ) → n < length s.remains.items → n < length s.registered.items → x ≡ get_or s.remains.items n x → r ≡ get_or s.registered.items n r
+pub is_taken : (s : EngineState) (e2 : PlainEngine) (n : ℕ) (limit : ℤ) (x y : Remains) (r r2 : Registration) (count : ℕ) → n < length s.remains.items → n < length s.registered.items → x ≡ get_or s.remains.items n x → r ≡ get_or s.registered.items n r
     → remains_of y ≡ remains_after count (remains_of x) → query_of r2 ≡ took count (query_of r) → e2 ≡ with_both (engine_in s) (map query_of (set s.registered.items n r2)) (map remains_of (set s.remains.items n y))
     → e2 ≡ taken (engine_in s) n limit count
 is_taken s e2 n limit x y r r2 count here there is_remains is_registered keeps takes made =
@@ -144,7 +144,7 @@ is_taken s e2 n limit x y r r2 count here there is_remains is_registered keeps t
     ∙ ap (with_both (engine_in s) (change n (took count) (map query_of s.registered.items))) (set-change remains_of (remains_after count) s.remains.items n y x here (keeps ∙ ap (λ z. remains_after count (remains_of z)) is_remains))
 
 -- WHAT IT KNOWS OF ITSELF after a take
-pub sound_again : (s s2 : State) → IsSound s → engine_in s2 ≡ engine_in s → s2.leases.items ≡ s.leases.items → s2.next ≡ s.next → s2.undropped ≡ s.undropped → s2.readers.items ≡ s.readers.items → IsSound s2
+pub sound_again : (s s2 : EngineState) → IsSound s → engine_in s2 ≡ engine_in s → s2.leases.items ≡ s.leases.items → s2.next ≡ s.next → s2.undropped ≡ s.undropped → s2.readers.items ≡ s.readers.items → IsSound s2
 sound_again s s2 h same leases next undropped readers = record {
   good = subst GoodEngine (sym same) h.good;
   kinds = λ g i. subst (λ e. HasKind e g) (sym same) (h.kinds g (subst (λ ls. IsIn ls g) leases i));
@@ -212,7 +212,7 @@ kind_taken e n limit count g h p running =
     get_operator : List PlainOperator → ℕ → PlainOperator
     get_operator os k = operator_at os k
 
-pub sound_taken : (s s2 : State) (n : ℕ) (limit : ℤ) (count : ℕ) → IsSound s → IsTake (engine_in s) n limit count → engine_in s2 ≡ taken (engine_in s) n limit count → s2.leases.items ≡ s.leases.items → s2.next ≡ s.next → s2.undropped ≡ s.undropped
+pub sound_taken : (s s2 : EngineState) (n : ℕ) (limit : ℤ) (count : ℕ) → IsSound s → IsTake (engine_in s) n limit count → engine_in s2 ≡ taken (engine_in s) n limit count → s2.leases.items ≡ s.leases.items → s2.next ≡ s.next → s2.undropped ≡ s.undropped
     → s2.readers.items ≡ s.readers.items → IsSound s2
 sound_taken s s2 n limit count h t is leases next undropped readers = record {
   good = subst GoodEngine (sym is) (take_good (engine_in s) n limit count h.good t);
@@ -279,11 +279,11 @@ remains_by view x y limit HistoryFull h = absurd h
 remains_by view x y limit (Foreign entries) h = absurd h
 remains_by view x y limit TooManyLeases h = absurd h
 
-pub refused_same : {A : Type 0} (view : A → List (ℤ × Row)) (s : State) (e2 : PlainEngine) (n limit : ℕ) (x y : Remains) (f : Fault) → IsSound s → first_fault (engine_in s).machine (Take n (pos limit)) ≡ None → x ≡ get_or s.remains.items n x
+pub refused_same : {A : Type 0} (view : A → List (ℤ × Row)) (s : EngineState) (e2 : PlainEngine) (n limit : ℕ) (x y : Remains) (f : Fault) → IsSound s → first_fault (engine_in s).machine (Take n (pos limit)) ≡ None → x ≡ get_or s.remains.items n x
     → HandsOut view (remains_of x) limit (Err f) (remains_of y) → e2 ≡ with_remains (engine_in s) (map remains_of (set s.remains.items n y)) → e2 ≡ engine_in s
 refused_same view s e2 n limit x y f sound none is h made = stays s e2 n x y (remains_within s n (pos limit) sound none) is (remains_by view (remains_of x) (remains_of y) limit f h) made
 
-pub refused_takes : {A : Type 0} (view : A → List (ℤ × Row)) (s : State) (e2 : PlainEngine) (n limit : ℕ) (x y : Remains) (f : Fault) (r : Result A Fault) → r ≡ Err f → IsSound s → first_fault (engine_in s).machine (Take n (pos limit)) ≡ None
+pub refused_takes : {A : Type 0} (view : A → List (ℤ × Row)) (s : EngineState) (e2 : PlainEngine) (n limit : ℕ) (x y : Remains) (f : Fault) (r : Result A Fault) → r ≡ Err f → IsSound s → first_fault (engine_in s).machine (Take n (pos limit)) ≡ None
     → x ≡ get_or s.remains.items n x → HandsOut view (remains_of x) limit (Err f) (remains_of y) → e2 ≡ with_remains (engine_in s) (map remains_of (set s.remains.items n y)) → Takes view (engine_in s) n (pos limit) r e2
 refused_takes view s e2 n limit x y f r err sound none is h made =
     subst (λ z. Takes view (engine_in s) n (pos limit) z e2) (sym err)
@@ -291,7 +291,7 @@ refused_takes view s e2 n limit x y f r err sound none is h made =
     (λ same. stays s e2 n x y (remains_within s n (pos limit) sound none) is same made))
 
 -- A TAKE THAT HANDS OUT ROWS
-pub handed_takes : {A : Type 0} (view : A → List (ℤ × Row)) (s : State) (e2 : PlainEngine) (n limit : ℕ) (x y : Remains) (r r2 : Registration) (rows : A) → IsSound s → first_fault (engine_in s).machine (Take n (pos limit)) ≡ None
+pub handed_takes : {A : Type 0} (view : A → List (ℤ × Row)) (s : EngineState) (e2 : PlainEngine) (n limit : ℕ) (x y : Remains) (r r2 : Registration) (rows : A) → IsSound s → first_fault (engine_in s).machine (Take n (pos limit)) ≡ None
     → x ≡ get_or s.remains.items n x → r ≡ get_or s.registered.items n r → HandsOut view (remains_of x) limit (Ok rows) (remains_of y) → query_of r2 ≡ took (count_in (remains_of x) limit) (query_of r)
     → e2 ≡ with_both (engine_in s) (map query_of (set s.registered.items n r2)) (map remains_of (set s.remains.items n y)) → Takes view (engine_in s) n (pos limit) (Ok rows) e2
 handed_takes view s e2 n limit x y r r2 rows sound none is_remains is_registered h takes made =
@@ -315,12 +315,12 @@ shown_at view e n limit k (Ok rows) none at h =
     )
 shown_at view e n limit k (Err f) none at h = refused_so view e e n limit k k none at f h (λ same. refl)
 
-pub shown_peeks : {A : Type 0} (view : A → List (ℤ × Row)) (s : State) (n limit : ℕ) (x : Remains) (r : Result A Fault) → IsSound s → first_fault (engine_in s).machine (Take n (pos limit)) ≡ None → x ≡ get_or s.remains.items n x
+pub shown_peeks : {A : Type 0} (view : A → List (ℤ × Row)) (s : EngineState) (n limit : ℕ) (x : Remains) (r : Result A Fault) → IsSound s → first_fault (engine_in s).machine (Take n (pos limit)) ≡ None → x ≡ get_or s.remains.items n x
     → ShowsFirst view (remains_of x) limit r → Peeks view (engine_in s) n (pos limit) r
 shown_peeks view s n limit x r sound none is h = shown_at view (engine_in s) n limit (remains_of x) r none (remains_is s n x (remains_within s n (pos limit) sound none) is) h
 
 -- WHAT A PEEK SHOWED is what is handed out
-pub shown_hands : (s : State) (n limit : ℕ) (x : Remains) (k : PlainRemains) (rows : List (ℤ × Row)) → IsSound s → Peeks (λ r. r) (engine_in s) n (pos limit) (Ok rows) → x ≡ get_or s.remains.items n x
+pub shown_hands : (s : EngineState) (n limit : ℕ) (x : Remains) (k : PlainRemains) (rows : List (ℤ × Row)) → IsSound s → Peeks (λ r. r) (engine_in s) n (pos limit) (Ok rows) → x ≡ get_or s.remains.items n x
     → k ≡ remains_after (count_in (remains_of x) limit) (remains_of x) → HandsOut (λ r. r) (remains_of x) limit (Ok rows) k
 shown_hands s n limit x k rows sound peeks is_remains made =
     let at : remains_at (engine_in s) n ≡ remains_of x = remains_is s n x (remains_within s n (pos limit) sound peeks.0) is_remains in (

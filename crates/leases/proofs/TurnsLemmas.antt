@@ -12,7 +12,7 @@ use Rattle.op_queue.specs.Logs.{Closed}
 use Rattle.op_queue.specs.declared.item.Item.{Item}
 use Rattle.op_queue.specs.declared.item.Item.TheVariants.{Tick}
 use Rattle.turn.specs.Turns.{Answered, Outs, Put}
-use Rattle.turn.specs.declared.excerpts.Near.TheVariants.{Nothing}
+use Rattle.turn.specs.declared.excerpts.Excerpt.TheVariants.{Nothing}
 use Rattle.operators.specs.Operators.{ready}
 use Rattle.operators.specs.declared.runs.Refused.{Refused}
 use Rattle.operators.specs.declared.runs.Refused.TheVariants.{Before, Within}
@@ -45,7 +45,7 @@ use Rattle.leases.specs.Told.{GoesOn, IsNoSteeper, MayTellBoth, told, told_above
 use Rattle.leases.specs.Turns.{lease_fault}
 use Rattle.leases.specs.declared.limits.TheConstants.{LEASE_NUMBERS, MAX_LEASES}
 use Rattle.leases.specs.declared.registered.Registration.{Registration}
-use Rattle.leases.specs.declared.state.State.{State}
+use Rattle.leases.specs.declared.state.EngineState.{EngineState}
 use Rattle.leases.proofs.BeatLemmas.{next_is}
 use Rattle.leases.proofs.DrainLemmas.{more_run, none_run}
 use Rattle.leases.proofs.FedLemmas.{HasNextOrAt, StartAt, item_at, outs_start, ready_fed}
@@ -138,7 +138,7 @@ pub record IsOver (e : PlainEngine) (s a : Slot) : Type 0 where
   pub query : a.query ≡ s.query
   pub asked : HasOperatorAt e a.query a.operator
 
-over_is : (m : State) (s : Slot) (sound : IsSound m) (first : first_of m.slots ≡ Some s) (above : Option Slot) → IsAbove (engine_in m) s.query s.operator above → MatchOption above ⊤ (IsOver (engine_in m) s)
+over_is : (m : EngineState) (s : Slot) (sound : IsSound m) (first : first_of m.slots ≡ Some s) (above : Option Slot) → IsAbove (engine_in m) s.query s.operator above → MatchOption above ⊤ (IsOver (engine_in m) s)
 over_is m s sound first None over = tt
 over_is m s sound first (Some a) over =
     let e : PlainEngine = engine_in m in
@@ -176,7 +176,7 @@ some_if_busy None e = absurd (cc)
 some_if_busy (Some x) e = refl
 
 -- THE LOOK: the slot is the first, beside the one above, and turns may go out
-pub record IsLook (start : State) (s : Slot) (above : Option Slot) (rows : ℕ) : Type 0 where
+pub record IsLook (start : EngineState) (s : Slot) (above : Option Slot) (rows : ℕ) : Type 0 where
   pub sound : IsSound start
   pub first : first_of start.slots ≡ Some s
   pub over : IsAbove (engine_in start) s.query s.operator above
@@ -186,7 +186,7 @@ pub record IsLook (start : State) (s : Slot) (above : Option Slot) (rows : ℕ) 
 
 -- BETWEEN TWO TURNS of one look: the slots are as they were at its start. Told, the engine is sound, the turns have run up to it, and the slot, which is that of
 -- the next turn, stands first
-pub record AreRunning (start now : State) (s : Slot) (above : Option Slot) (rows : ℕ) (next : Slot) : Type 0 where
+pub record AreRunning (start now : EngineState) (s : Slot) (above : Option Slot) (rows : ℕ) (next : Slot) : Type 0 where
   pub look : IsLook start s above rows
   pub turn : next ≡ told_slot (engine_in now) s
   pub slots : now.slots ≡ start.slots
@@ -199,7 +199,7 @@ pub record AreRunning (start now : State) (s : Slot) (above : Option Slot) (rows
   pub ran : SomeHaveRun rows (engine_in start) (told (engine_in now) s above)
 
 -- AT THE START
-module _ {start : State} {s : Slot} {above : Option Slot} {rows : ℕ} (look : IsLook start s above rows) where
+module _ {start : EngineState} {s : Slot} {above : Option Slot} {rows : ℕ} (look : IsLook start s above rows) where
   s_here : slot_of (engine_in start) s.query s.operator ≡ Some s
   s_here = look.sound.good.slots.only s (first_in start.slots s look.first).0
 
@@ -250,12 +250,12 @@ module _ {start : State} {s : Slot} {above : Option Slot} {rows : ℕ} (look : I
   }
 
 -- A TURN RUNS
-module _ {start now : State} {s : Slot} {above : Option Slot} {rows : ℕ} {went : Slot} (r : AreRunning start now s above rows went) where
+module _ {start now : EngineState} {s : Slot} {above : Option Slot} {rows : ℕ} {went : Slot} (r : AreRunning start now s above rows went) where
   -- as it is told
   abbrev e : PlainEngine
   e = engine_in now
 
-  abbrev t : State
+  abbrev t : EngineState
   t = told_state now s above
 
   abbrev turn : Slot
@@ -298,11 +298,11 @@ module _ {start now : State} {s : Slot} {above : Option Slot} {rows : ℕ} {went
   may_tell_above (Some a) h = asks_on (engine_in t) e.leases e.next e.slots a.query a.operator h.asked
 
   -- IT HAS RUN
-  module _ {m : State} (rest : GivesNothing now m) (run : HasRunIn e went rows (engine_in m)) where
-    abbrev mt : State
+  module _ {m : EngineState} (rest : GivesNothing now m) (run : HasRunIn e went rows (engine_in m)) where
+    abbrev mt : EngineState
     mt = with_slots m t.slots
 
-    abbrev m2 : State
+    abbrev m2 : EngineState
     m2 = given m now.next
 
     abbrev e2 : PlainEngine
@@ -541,7 +541,7 @@ module _ {start now : State} {s : Slot} {above : Option Slot} {rows : ℕ} {went
         runs_on with.0 (sym same ∙ with.1.0) with.1.1 (flat goes.first) (omega (arith, left, few)) new (is ∙ ap (with_next s) same)
 
   -- IT WAS REFUSED MEMORY before it took anything: with the slots told all is as it was told
-  module _ {m : State} (rest : GivesNothing now m) {refused : Refused} (is_before : refused ≡ Before) (stopped : HasStoppedIn refused e went rows (engine_in m)) where
+  module _ {m : EngineState} (rest : GivesNothing now m) {refused : Refused} (is_before : refused ≡ Before) (stopped : HasStoppedIn refused e went rows (engine_in m)) where
     as_before : engine_in m ≡ e
     as_before = stopped_as e (engine_in m) turn rows p running (stopped_turn refused Before e went turn rows (engine_in m) is_before r.turn stopped)
 
@@ -552,27 +552,27 @@ module _ {start now : State} {s : Slot} {above : Option Slot} {rows : ℕ} {went
       stand = subst (λ ss. BothStand ss s above) (sym (ap (λ (z : PlainEngine). z.slots) as_before ∙ r.slots)) both;
     }
 
-    told_before : (new : State) → new ≡ told_state m s above → engine_in new ≡ told e s above
+    told_before : (new : EngineState) → new ≡ told_state m s above → engine_in new ≡ told e s above
     told_before new is = ap engine_in is ∙ ap (λ z. told z s above) as_before
 
-    pub wanted_before : {new : State} → new ≡ told_state m s above → RanOutAfterTurns rows (engine_in start) (engine_in new)
+    pub wanted_before : {new : EngineState} → new ≡ told_state m s above → RanOutAfterTurns rows (engine_in start) (engine_in new)
     wanted_before {new} is = (told e s above, (r.ran, inl (r.allowed, ap is_some r.first, told_before new is)))
 
-    pub below_before : {until : ℕ} → now.next < until → {new : State} → new ≡ told_state m s above → RanOutBelow rows until (engine_in start) (engine_in new)
+    pub below_before : {until : ℕ} → now.next < until → {new : EngineState} → new ≡ told_state m s above → RanOutBelow rows until (engine_in start) (engine_in new)
     below_before left {new} is = (told e s above, (r.ran, (inl (r.allowed, ap is_some r.first, told_before new is), left)))
 
-    pub before_next : {new : State} → new ≡ told_state m s above → new.next ≡ now.next
+    pub before_next : {new : EngineState} → new ≡ told_state m s above → new.next ≡ now.next
     before_next {new} is = ap (λ (z : PlainEngine). z.next) (told_before new is)
 
-    pub before_sound : {new : State} → new ≡ told_state m s above → IsSound new
+    pub before_sound : {new : EngineState} → new ≡ told_state m s above → IsSound new
     before_sound {new} is = sound_as t new r.sound (told_before new is) (subst (GivesNothing t) (sym is) (record { undropped = rest.undropped; readers = rest.readers; leases = rest.leases }))
 
   -- or with an item in hand: its query breaks
-  module _ {m : State} (rest : GivesNothing now m) {refused : Refused} (is_within : refused ≡ Within) (stopped : HasStoppedIn refused e went rows (engine_in m)) where
+  module _ {m : EngineState} (rest : GivesNothing now m) {refused : Refused} (is_within : refused ≡ Within) (stopped : HasStoppedIn refused e went rows (engine_in m)) where
     stopped_here : HasStoppedIn Within e turn rows (engine_in m)
     stopped_here = stopped_turn refused Within e went turn rows (engine_in m) is_within r.turn stopped
 
-    abbrev mw : State
+    abbrev mw : EngineState
     mw = with_slots m t.slots
 
     stopped_told : HasStoppedIn Within (engine_in t) turn rows (engine_in mw)
@@ -607,7 +607,7 @@ module _ {start now : State} {s : Slot} {above : Option Slot} {rows : ℕ} {went
         ∙ sym (told_leave (slot_of (engine_in start)) start.slots s e above listed)
         ∙ ap (λ ss. without_query s.query (with_updates e (s ∷ option_to_list above) ss)) (sym r.slots)
 
-    module _ (n : ℕ) (sn : n ≡ s.query) (upto : ℕ) (reached : upto ≡ upto_at e n) (new : State) (broke : IsBrokenAt (engine_in (given m now.next)) n upto (engine_in new)) where
+    module _ (n : ℕ) (sn : n ≡ s.query) (upto : ℕ) (reached : upto ≡ upto_at e n) (new : EngineState) (broke : IsBrokenAt (engine_in (given m now.next)) n upto (engine_in new)) where
       broke_here : IsBrokenAt (engine_in (given m now.next)) s.query upto (engine_in new)
       broke_here = subst (λ z. IsBrokenAt (engine_in (given m now.next)) z upto (engine_in new)) sn broke
 

@@ -12,7 +12,7 @@ use Rattle.turn.specs.declared.turns.Turn.{Turn}
 use Rattle.leases.specs.Shown.{engine_in}
 use Rattle.leases.specs.Whole.{IsWhole, IsWholeEngine}
 use Rattle.leases.specs.declared.remains.Remains.{Remains}
-use Rattle.leases.specs.declared.state.State.{State}
+use Rattle.leases.specs.declared.state.EngineState.{EngineState}
 use Rattle.laws_engine.proofs.PromiseLemmas.{is_slot}
 
 -- BEFORE ANY CALL
@@ -39,7 +39,7 @@ starts_empty streams slots e f = rw (e, f) refl
 empty_whole : IsWholeEngine empty_engine
 empty_whole = record { returned = refl; unbroken = λ n answers upto e. let f : Dropped ≡ Broken answers upto = e in absurd (cc) }
 
-pub whole_at_first : (s : State) → engine_in s ≡ empty_engine → IsWhole s
+pub whole_at_first : (s : EngineState) → engine_in s ≡ empty_engine → IsWhole s
 whole_at_first s e = subst IsWholeEngine (sym e) empty_whole
 
 -- WHAT WAITS

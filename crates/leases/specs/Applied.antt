@@ -16,7 +16,7 @@ use Rattle.laws_engine.specs.Engines.{IsIn, Lease, PlainEngine, PlainRemains, Ru
 use Rattle.laws_engine.specs.Engines.{query_at, remains_at, slot_at}
 use Rattle.leases.specs.Asked.{HasOperatorAt}
 use Rattle.leases.specs.Turns.{IsOut}
-use Rattle.leases.specs.declared.state.State.{State}
+use Rattle.leases.specs.declared.state.EngineState.{EngineState}
 
 -- THE TURN that was run is the one that was handed out:
 -- operator, item and excerpt are the same by value
@@ -93,7 +93,7 @@ abbrev pub without_turn : PlainEngine → ℕ → PlainEngine
 without_turn e n = record e { leases = others n e.leases }
 
 -- A QUERY RUNS NO MORE: its turns end, its windows and slots leave, and nothing else is changed
-pub record Stops (n : ℕ) (old new : State) : Type 0 where
+pub record Stops (n : ℕ) (old new : EngineState) : Type 0 where
   pub leases : new.leases.items ≡ filter (λ t. not (t.node.query == n)) old.leases.items
   pub readers : new.readers.items ≡ filter (λ r. not (r.query == n)) old.readers.items
   pub slots : new.slots ≡ without_query n old.slots
@@ -101,13 +101,13 @@ pub record Stops (n : ℕ) (old new : State) : Type 0 where
 
 -- a query leaves: what is kept of those that were not dropped is
 -- as it was, its windows are listed no more, and no turn goes out
-pub record Forgets (n : ℕ) (old new : State) : Type 0 where
+pub record Forgets (n : ℕ) (old new : EngineState) : Type 0 where
   pub undropped : new.undropped ≡ old.undropped
   pub readers : new.readers.items ≡ filter (λ r. not (r.query == n)) old.readers.items
   pub leases : (t : Turn) → IsIn new.leases.items t → IsIn old.leases.items t
 
 -- what is kept of undropped queries and the readers are as they were, and no turn goes out
-pub record GivesNothing (old new : State) : Type 0 where
+pub record GivesNothing (old new : EngineState) : Type 0 where
   pub undropped : new.undropped ≡ old.undropped
   pub readers : new.readers.items ≡ old.readers.items
   pub leases : (t : Turn) → IsIn new.leases.items t → IsIn old.leases.items t

@@ -17,7 +17,7 @@ use Rattle.leases.specs.Undropped.{undropped_of}
 use Rattle.leases.specs.Views.{query_of, remains_of}
 use Rattle.leases.specs.declared.limits.TheConstants.{LEASE_NUMBERS}
 use Rattle.leases.specs.declared.registered.Registration.{Registration}
-use Rattle.leases.specs.declared.state.State.{State}
+use Rattle.leases.specs.declared.state.EngineState.{EngineState}
 use Rattle.leases.specs.declared.state.jobs.Job.{Job}
 use Rattle.leases.specs.declared.state.jobs.Quota.{Quota}
 use Rattle.leases.specs.declared.state.jobs.TheConstants.{MOST_TURNS}
@@ -75,7 +75,7 @@ HaveOwnQueries [] = ⊤
 HaveOwnQueries (j ∷ js) = AllByRecursion (λ i. i.query ≢ j.query) js × HaveOwnQueries js
 
 -- there are numbers for all their turns
-abbrev pub HaveNumbers : State → List Job → Type 0
+abbrev pub HaveNumbers : EngineState → List Job → Type 0
 HaveNumbers s js = length js * MOST_TURNS + s.next ≤ LEASE_NUMBERS
 
 -- A JOB OF AN ENGINE: its query runs, and its slots are those of the query
@@ -96,7 +96,7 @@ pub record IsLentJob (e : PlainEngine) (j : Job) : Type 0 where
   pub of : IsJobOf e j
   pub has : remains_of j.remains ≡ remains_at e j.query
 
-pub record AreNewJobs (s : State) (js : List Job) : Type 0 where
+pub record AreNewJobs (s : EngineState) (js : List Job) : Type 0 where
   pub apart : HaveOwnQueries js
   pub numbers : HaveNumbers s js
   pub each : AllByRecursion (IsNewJob (engine_in s)) js
@@ -117,14 +117,14 @@ abbrev pub out_of : Job → ℕ × PlainRemains
 out_of j = (j.query, remains_of j.remains)
 
 -- only what is left of some queries is elsewhere
-pub record IsBare (e : PlainEngine) (old new : State) : Type 0 where
+pub record IsBare (e : PlainEngine) (old new : EngineState) : Type 0 where
   pub is : engine_in new ≡ record e { queries = (engine_in new).queries }
   pub undropped : new.undropped ≡ old.undropped
   pub readers : new.readers.items ≡ old.readers.items
   pub leases : new.leases.items ≡ old.leases.items
 
 -- LENT: the jobs have the queries of the state as it was
-pub record AreLent (old : State) (js : List Job) (new : State) : Type 0 where
+pub record AreLent (old : EngineState) (js : List Job) (new : EngineState) : Type 0 where
   pub bare : IsBare (engine_in old) old new
   pub placed : placed (map out_of js) (engine_in new).queries ≡ (engine_in old).queries
   pub apart : HaveOwnQueries js
@@ -145,7 +145,7 @@ AreBrought e rows (o ∷ os) [] = ⊥
 AreBrought e rows (o ∷ os) (j ∷ js) = IsBrought e rows o j × AreBrought e rows os js
 
 -- OUT: the state is this good engine, except for the queries that are out; their jobs are done
-pub record AreOut (e : PlainEngine) (rows : ℕ) (js : List Job) (s : State) : Type 0 where
+pub record AreOut (e : PlainEngine) (rows : ℕ) (js : List Job) (s : EngineState) : Type 0 where
   pub good : GoodEngine e
   pub is : engine_in s ≡ record e { queries = (engine_in s).queries }
   pub returned : s.leases.items ≡ []

@@ -12,8 +12,8 @@ use Rattle.run_queue.specs.Slots.{changed}
 use Rattle.run_queue.specs.declared.slots.Slot.{Slot}
 use Rattle.laws_engine.specs.Engines.{Broken, Dropped, PlainEngine, PlainRemains, Running, next_at}
 use Rattle.laws_engine.specs.Engines.{query_at, remains_at, slot_of}
-use Rattle.leases.specs.declared.reader.Reader.{Reader}
-use Rattle.leases.specs.declared.state.State.{State}
+use Rattle.leases.specs.declared.reader.WindowReader.{WindowReader}
+use Rattle.leases.specs.declared.state.EngineState.{EngineState}
 
 -- the source of a window is one of the query
 abbrev pub HasSource : Registered → plan.Node → Type 0
@@ -26,11 +26,11 @@ HasSource q (plan.Distinct i) = ⊤
 HasSource q (plan.ToStream i op) = ⊤
 
 -- THE READERS
-abbrev pub reader : ℕ → ℕ → ℕ → Reader
+abbrev pub reader : ℕ → ℕ → ℕ → WindowReader
 reader s n k = record { stream = s; query = n; operator = k }
 
 -- the operator k of a query n, if it is a window
-abbrev pub reader_in : Registered → ℕ → ℕ → plan.Node → Option Reader
+abbrev pub reader_in : Registered → ℕ → ℕ → plan.Node → Option WindowReader
 reader_in q n k (plan.Window j) = Some (reader (place_of q j).stream n k)
 reader_in q n k (plan.Select i cs) = None
 reader_in q n k (plan.Join i j ks) = None
@@ -40,7 +40,7 @@ reader_in q n k (plan.Distinct i) = None
 reader_in q n k (plan.ToStream i op) = None
 
 -- the windows among the nodes of the query n, of which the first is its operator k
-abbrev pub windows_from : Registered → ℕ → ℕ → List plan.Node → List Reader
+abbrev pub windows_from : Registered → ℕ → ℕ → List plan.Node → List WindowReader
 windows_from q n k [] = []
 windows_from q n k (node ∷ nodes) =
     option_to_list (reader_in q n k node) ++ windows_from q n (suc k) nodes
@@ -53,13 +53,13 @@ runs Dropped = false
 
 -- THE LIST OF READERS: just the windows of the queries that run, each once;
 -- the first query has the number n, and each stands beside whether it runs
-abbrev pub readers_from : ℕ → List Registered → List Bool → List Reader
+abbrev pub readers_from : ℕ → List Registered → List Bool → List WindowReader
 readers_from n [] bs = []
 readers_from n (q ∷ qs) [] = []
 readers_from n (q ∷ qs) (b ∷ bs) =
     cond b (windows_from q n 0 q.nodes) [] ++ readers_from (suc n) qs bs
 
-abbrev pub readers_of : PlainEngine → List Reader
+abbrev pub readers_of : PlainEngine → List WindowReader
 readers_of e = readers_from 0 e.machine.queries (map runs e.queries)
 
 -- THE SLOTS of the readers of the stream s that have nothing to take
@@ -76,7 +76,7 @@ is_idle_at e n k = is_idle_in e.machine.streams k (remains_at e n)
 abbrev pub idle_slot : PlainEngine → ℕ → ℕ → List Slot
 idle_slot e n k = cond (is_idle_at e n k) (option_to_list (slot_of e n k)) []
 
-abbrev pub idle_slots : PlainEngine → ℕ → List Reader → List Slot
+abbrev pub idle_slots : PlainEngine → ℕ → List WindowReader → List Slot
 idle_slots e s [] = []
 idle_slots e s (r ∷ rs) = cond (r.stream == s) (idle_slot e r.query r.operator) []
     ++ idle_slots e s rs
@@ -101,5 +101,5 @@ with_updates e [] slots = slots
 with_updates e (s ∷ ss) slots = with_updates e ss (with_update e s slots)
 
 -- only the slots are others
-abbrev pub with_slots : State → List Slot → State
+abbrev pub with_slots : EngineState → List Slot → EngineState
 with_slots s slots = record s { slots = slots }

@@ -9,7 +9,7 @@ use Rattle.leases.specs.Shown.{engine_in}
 use Rattle.leases.specs.Undropped.{undropped_of}
 use Rattle.leases.specs.Views.{HasKind}
 use Rattle.leases.specs.declared.limits.TheConstants.{LEASE_NUMBERS, MAX_LEASES}
-use Rattle.leases.specs.declared.state.State.{State}
+use Rattle.leases.specs.declared.state.EngineState.{EngineState}
 
 -- nothing is left of a query that was dropped
 abbrev pub is_gone : PlainRemains → Bool
@@ -20,7 +20,7 @@ is_gone Dropped = true
 -- it is a good engine, whose turns do what their operators do; few are out, and no number above the
 -- last was given; it keeps the names of the queries that were not dropped, and just their row
 -- limits, and lists just the windows of those that run
-pub record IsSound (s : State) : Type 0 where
+pub record IsSound (s : EngineState) : Type 0 where
   pub good : GoodEngine (engine_in s)
   pub kinds : (t : Turn) → IsIn s.leases.items t → HasKind (engine_in s) t
   pub few : length s.leases.items ≤ MAX_LEASES

@@ -11,7 +11,7 @@ use Rattle.leases.specs.Applied.{BothStand, MayTell}
 use Rattle.leases.specs.Asked.{HasOperatorAt}
 use Rattle.leases.specs.Readers.{next_for, with_slots, with_updates}
 use Rattle.leases.specs.Shown.{engine_in}
-use Rattle.leases.specs.declared.state.State.{State}
+use Rattle.leases.specs.declared.state.EngineState.{EngineState}
 
 -- a slot with what its operator may take next
 abbrev pub told_slot : PlainEngine → Slot → Slot
@@ -28,11 +28,11 @@ told_slots e s above = with_updates e (s ∷ option_to_list above) e.slots
 abbrev pub told : PlainEngine → Slot → Option Slot → PlainEngine
 told e s above = record e { slots = told_slots e s above }
 
-abbrev pub told_state : State → Slot → Option Slot → State
+abbrev pub told_state : EngineState → Slot → Option Slot → EngineState
 told_state m s above = with_slots m (told_slots (engine_in m) s above)
 
 -- both may be told, and stand as they did
-pub record MayTellBoth (m : State) (s : Slot) (above : Option Slot) : Type 0 where
+pub record MayTellBoth (m : EngineState) (s : Slot) (above : Option Slot) : Type 0 where
   pub here : HasOperatorAt (engine_in m) s.query s.operator
   pub over : MayTell (engine_in m) above
   pub stand : BothStand m.slots s above
@@ -43,7 +43,7 @@ IsNoSteeper above s = MatchOption above ⊤ (λ a. is_gt (fraction_cmp a.slope.0
 
 -- one that has none goes on with what it may take next: there is
 -- something of the same instant, and a number for a turn below the given one
-pub record GoesOn (m : State) (s : Slot) (next : Option (Side × ℕ)) (stays : Bool)
+pub record GoesOn (m : EngineState) (s : Slot) (next : Option (Side × ℕ)) (stays : Bool)
     (until : ℕ) : Type 0 where
   pub first : stays ≡ true
   pub numbers : m.next < until

@@ -12,11 +12,11 @@ use Rattle.laws_engine.specs.Engines.{Broken, Dropped, Lease, PlainEngine, Plain
 use Rattle.laws_engine.specs.Engines.{answers_in, remains_at}
 use Rattle.leases.specs.declared.remains.Remains.{Remains}
 use Rattle.leases.specs.declared.remains.Remains.TheVariants as code
-use Rattle.leases.specs.declared.registered.Place.{Place}
+use Rattle.leases.specs.declared.registered.SourcePlace.{SourcePlace}
 use Rattle.leases.specs.declared.registered.Registration.{Registration}
 
 -- a source's place
-abbrev pub place_of : Place → machine.Place
+abbrev pub place_of : SourcePlace → machine.Place
 place_of p = record { stream = p.stream; arrivals = p.arrivals }
 
 -- what is left of a query

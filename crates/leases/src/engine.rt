@@ -7,7 +7,7 @@ mod takes;
 mod threads;
 mod turns;
 
-use crate::state::State;
+use crate::state::EngineState;
 use std::marker::Model;
 
 /// Runs many queries. It holds the streams, the registered queries and what is left of each, the
@@ -15,14 +15,14 @@ use std::marker::Model;
 #[derive(Drop)]
 pub struct Engine {
     /// Holds all of it, part by part.
-    state: State,
+    state: EngineState,
 }
 
 impl Model for Engine {
     ghost use Rattle.std.specs.Coded.{codes};
     ghost use Rattle.values.specs.contracts.resolved.Condition as condition;
     ghost use Rattle.leases.specs.Sound.{IsSound};
-    ghost use Rattle.leases.specs.declared.state.State.{State as PlainState};
+    ghost use Rattle.leases.specs.declared.state.EngineState.{EngineState as PlainState};
 
     ghost Value = { PlainState };
 

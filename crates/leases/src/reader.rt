@@ -3,7 +3,7 @@ ghost use Rattle.std.specs.Prelude.{◌≡◌, ◌==◌, filter, not};
 
 /// Is a window of a registered query, as a reader of a stream.
 #[derive(Clone, Copy)]
-pub(crate) struct Reader {
+pub(crate) struct WindowReader {
     /// Holds the number of the stream that it reads.
     pub(crate) stream: u64,
     /// Holds the number of the query.
@@ -12,7 +12,7 @@ pub(crate) struct Reader {
     pub(crate) operator: usize,
 }
 
-impl Reader {
+impl WindowReader {
     /// Says whether it reads the stream with this number.
     pub(crate) fn reads(&self, stream: u64) -> bool
         ensures { result ≡ (self.now.stream == stream) }
@@ -22,7 +22,7 @@ impl Reader {
 }
 
 /// Removes the windows of a query from the list.
-pub(crate) fn forget_readers(readers: &mut Vec<Reader>, query: u64)
+pub(crate) fn forget_readers(readers: &mut Vec<WindowReader>, query: u64)
     ensures { readers.new.items ≡ filter (λ r. not (r.query == query)) readers.old.items }
 {
     readers.retain(|reader| reader.query != query);

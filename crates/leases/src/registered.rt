@@ -14,7 +14,7 @@ use std::sync::Arc;
 
 /// Is a source of a registered query.
 #[derive(Clone, Copy)]
-pub(crate) struct Place {
+pub(crate) struct SourcePlace {
     /// Holds the number of the stream.
     pub(crate) stream: u64,
     /// Counts the rows that had come to the stream before the registration: the query does not see
@@ -34,7 +34,7 @@ pub(crate) struct Registration {
     /// Holds the slope of each operator, by number.
     pub(crate) slopes: Vec<Slope>,
     /// Holds its sources, in the order of the text.
-    pub(crate) places: Vec<Place>,
+    pub(crate) places: Vec<SourcePlace>,
     /// Holds its first instant: the greatest of the first open instants of its streams at the
     /// registration.
     pub(crate) first: u64,

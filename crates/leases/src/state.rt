@@ -17,7 +17,7 @@ mod shares;
 mod status;
 mod takes;
 
-use crate::reader::Reader;
+use crate::reader::WindowReader;
 use crate::registered::Registration;
 use crate::remains::Remains;
 use crate::undropped::Undropped;
@@ -29,7 +29,7 @@ use turn::Turn;
 /// Keeps everything that an engine holds. It has no invariant, so that small methods may leave it
 /// between two changes; `Engine` holds a state that is sound.
 #[derive(Drop)]
-pub(crate) struct State {
+pub(crate) struct EngineState {
     /// Provides the memory.
     alloc: Global,
     /// Holds the declared streams, by number, with their open and their closed rows.
@@ -42,7 +42,7 @@ pub(crate) struct State {
     remains: Vec<Remains>,
     /// Lists the windows of the running queries, each once, by the queries' numbers and then by the
     /// operators'.
-    readers: Vec<Reader>,
+    readers: Vec<WindowReader>,
     /// Holds copies of the turns that are out, at most `MAX_LEASES`, in the order in which they
     /// went.
     pub(crate) leases: Vec<Turn>,

@@ -6,7 +6,7 @@ ghost use Rattle.name_table.specs.Names.{bears};
 ghost use Rattle.leases.specs.Undropped.{least, limit_at, limits_in, tightened};
 ghost use Rattle.leases.specs.Views.{place_of, query_of};
 
-use crate::registered::{Place, Registration};
+use crate::registered::{Registration, SourcePlace};
 use name_table::NameTable;
 use reference::{MAX_STREAM_ROWS, rows_of_each};
 use std::alloc::{AllocError, Global};
@@ -107,7 +107,7 @@ impl Undropped {
 }
 
 /// Makes the limit of a source of a query that may count this many rows of each source.
-fn limit_of(place: Place, query: u64, rows: u64) -> RowLimit
+fn limit_of(place: SourcePlace, query: u64, rows: u64) -> RowLimit
     ensures { result ≡ limit_at query rows (place_of place) }
 {
     let most = place.arrivals.saturating_add(rows);
@@ -131,7 +131,7 @@ fn put_limits(limits: &mut Vec<RowLimit>, query: &Registration, number: u64)
 }
 
 /// Appends the limits of these sources. There is room for them.
-fn put_each(limits: &mut Vec<RowLimit>, places: &[Place], query: u64, rows: u64)
+fn put_each(limits: &mut Vec<RowLimit>, places: &[SourcePlace], query: u64, rows: u64)
     requires { vec_len limits.old + length places.now ≤ vec_capacity limits.old }
     ensures { limits.new.items
         ≡ limits.old.items ++ map (limit_at query rows) (map place_of places.now) }

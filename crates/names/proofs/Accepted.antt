@@ -55,7 +55,7 @@ none_of_seven false false false false false false false h = (refl, refl, refl, r
 
 pub accepted : (q : syntax.Query) (catalog : List Stream) → first_fault q catalog ≡ None → Accepted q catalog
 accepted q catalog h =
-    let after : List (List conditions.Column) = map (matches.matches 0 (tables catalog q.sources)) (flat_map named_by (entry_list q.entries) ++ (references_of_where q.condition ++ q.group)) in
+    let after : List (List conditions.SourceColumn) = map (matches.matches 0 (tables catalog q.sources)) (flat_map named_by (entry_list q.entries) ++ (references_of_where q.condition ++ q.group)) in
     let long : Bool = list_any (λ s. nat_lt MAX_COLUMNS (length (partition_of s.window))) q.sources in
     let none = none_of_seven (list_any (λ s. is_none (number_in catalog s.stream)) q.sources) (list_any is_missing (all_matches q catalog))
     (list_any is_many (all_matches q catalog)) (has_repeat (map matches.name_of q.sources))
@@ -72,31 +72,28 @@ accepted q catalog h =
 
 -- NARROW ROWS
 
-listed_is : (b : Bool) (cs ds by : List conditions.Column) (items : List relations.ListItem) → relations.Listed cs ≡ cond b (relations.Grouped by items) (relations.Listed ds) → cs ≡ ds
+listed_is : (b : Bool) (cs ds by : List conditions.SourceColumn) (items : List relations.ListItem) → relations.Listed cs ≡ cond b (relations.Grouped by items) (relations.Listed ds) → cs ≡ ds
 listed_is true cs ds by items h = absurd (cc)
 listed_is false cs ds by items h = cc
 
-grouped_is : (b : Bool) (by by' ds : List conditions.Column) (items items' : List relations.ListItem)
+grouped_is : (b : Bool) (by by' ds : List conditions.SourceColumn) (items items' : List relations.ListItem)
     → relations.Grouped by items ≡ cond b (relations.Grouped by' items') (relations.Listed ds) → (by ≡ by') × (items ≡ items')
 grouped_is true by by' ds items items' h = (cc, cc)
 grouped_is false by by' ds items items' h = absurd (cc)
 
-named_once : (e : syntax.Entry) → length (named_by e) ≤ 1
+named_once : (e : syntax.WrittenEntry) → length (named_by e) ≤ 1
 named_once (syntax.Column r) = omega arith
 named_once syntax.CountAll = omega arith
-named_once (syntax.Count r) = omega arith
-named_once (syntax.Sum r) = omega arith
-named_once (syntax.Min r) = omega arith
-named_once (syntax.Max r) = omega arith
+named_once (syntax.Of a r) = omega arith
 
-named_few : (es : List syntax.Entry) → length (flat_map named_by es) ≤ length es
+named_few : (es : List syntax.WrittenEntry) → length (flat_map named_by es) ≤ length es
 named_few [] = omega arith
 named_few (e ∷ es) = omega (arith, named_once e, named_few es, length-append (named_by e) (flat_map named_by es))
 
 length-all_columns : (s : ℕ) (ts : List Table) → length (all_columns s ts) ≡ sum (map (λ t. length t.columns) ts)
 length-all_columns s [] = refl
 length-all_columns s (t ∷ ts) =
-    let f : ℕ → conditions.Column = λ k. record { source = s; column = k } in
+    let f : ℕ → conditions.SourceColumn = λ k. record { source = s; column = k } in
     length-append (map f (range_with_len 0 (length t.columns))) (all_columns (suc s) ts)
     ∙ ap (λ (n : ℕ). n + length (all_columns (suc s) ts)) (length-map-range_with_len f 0 (length t.columns))
     ∙ ap (λ (n : ℕ). length t.columns + n) (length-all_columns (suc s) ts)
@@ -130,7 +127,7 @@ narrow (Grouped by listed) ts q e items group w =
 
 -- WINDOWS
 
-slide : (w : Window) (t : Table) (v : syntax.Window) → IsGoodWindow v → window_of w ≡ spec.window_of t v → can_slide w ≡ true
+slide : (w : Window) (t : Table) (v : syntax.WrittenWindow) → IsGoodWindow v → window_of w ≡ spec.window_of t v → can_slide w ≡ true
 slide (Range n) t v g h = refl
 slide (RangeSlide n l) t syntax.Now g h = absurd (cc)
 slide (RangeSlide n l) t (syntax.Range m) g h = absurd (cc)
@@ -144,7 +141,7 @@ slide Unbounded t v g h = refl
 slide (LastRows columns n) t v g h = refl
 
 -- a window that slides does so by one instant or more, where those of the text do
-pub slides : (ws : List Window) (catalog : List Stream) (ss : List syntax.Source) → Each' (λ s. IsGoodWindow s.window) ss → map window_of ws ≡ windows_of catalog ss
+pub slides : (ws : List Window) (catalog : List Stream) (ss : List syntax.WrittenSource) → Each' (λ s. IsGoodWindow s.window) ss → map window_of ws ≡ windows_of catalog ss
     → all_slide ws ≡ true
 slides [] catalog ss g h = refl
 slides (w ∷ ws) catalog [] g h = absurd (cc)
@@ -186,7 +183,7 @@ places_here t (r ∷ rs) h =
     both_true (nat_lt (place_in t r) (length t.columns)) (list_all (λ k. nat_lt k (length t.columns)) (map (place_in t) rs))
     (lt-ltb (place_in t r) (length t.columns) (place_here t r both.0)) (places_here t rs both.1)
 
-window_within : (w : Window) (t : Table) (v : syntax.Window) → window_of w ≡ spec.window_of t v
+window_within : (w : Window) (t : Table) (v : syntax.WrittenWindow) → window_of w ≡ spec.window_of t v
     → list_any is_missing (map (λ r. matches_in 0 r t) (partition_of v)) ≡ false → nat_lt MAX_COLUMNS (length (partition_of v)) ≡ false → is_within w (length t.columns) ≡ true
 window_within (Range n) t v h m p = refl
 window_within (RangeSlide n l) t v h m p = refl
@@ -203,7 +200,7 @@ window_within (LastRows columns n) t (syntax.Partition by rows) h m p =
     rw is (both_true (list_all (λ k. nat_lt k (length t.columns)) (map (place_in t) by)) (nat_le (length (map (place_in t) by)) MAX_COLUMNS)
     (places_here t by m) (le-leb (length (map (place_in t) by)) MAX_COLUMNS (omega (arith, length-map by (place_in t), ltb-false MAX_COLUMNS (length by) p))))
 
-pub within : (ws : List Window) (vs : List ℕ) (catalog : List Stream) (ss : List syntax.Source) → map window_of ws ≡ windows_of catalog ss
+pub within : (ws : List Window) (vs : List ℕ) (catalog : List Stream) (ss : List syntax.WrittenSource) → map window_of ws ≡ windows_of catalog ss
     → vs ≡ map (λ t. length t.columns) (tables catalog ss)
     → list_any is_missing (flat_map (λ s. map (λ r. matches_in 0 r (table_of catalog s)) (partition_of s.window)) ss) ≡ false
     → list_any (λ s. nat_lt MAX_COLUMNS (length (partition_of s.window))) ss ≡ false → all_within ws vs ≡ true
@@ -216,8 +213,8 @@ within (w ∷ ws) (k ∷ vs) catalog (s ∷ ss) h v m p =
     let more : vs ≡ map (λ t. length t.columns) (tables catalog ss) = cc in
     let here : window_of w ≡ spec.window_of t s.window = cc in
     let rest : map window_of ws ≡ windows_of catalog ss = cc in
-    let mine : List (List conditions.Column) = map (λ r. matches_in 0 r t) (partition_of s.window) in
-    let others : List (List conditions.Column) = flat_map (λ s. map (λ r. matches_in 0 r (table_of catalog s)) (partition_of s.window)) ss in
+    let mine : List (List conditions.SourceColumn) = map (λ r. matches_in 0 r t) (partition_of s.window) in
+    let others : List (List conditions.SourceColumn) = flat_map (λ s. map (λ r. matches_in 0 r (table_of catalog s)) (partition_of s.window)) ss in
     let found = or_false (list_any is_missing mine) (list_any is_missing others) (sym (any_append is_missing mine others) ∙ m) in
     let short = or_false (nat_lt MAX_COLUMNS (length (partition_of s.window))) (list_any (λ s. nat_lt MAX_COLUMNS (length (partition_of s.window))) ss) p in
     both_true (is_within w k) (all_within ws vs) (rw width (window_within w t s.window here found.0 short.0)) (within ws vs catalog ss rest more found.1 short.1)
@@ -228,7 +225,7 @@ known_at : (b : Bool) (k n : ℕ) → nat_lt k n ≡ b → is_none (cond b (Some
 known_at true k n e h = grind (arith, nat_tests)
 known_at false k n e h = absurd (cc)
 
-pub known : (catalog : List Stream) (ss : List syntax.Source) → list_any (λ s. is_none (number_in catalog s.stream)) ss ≡ false
+pub known : (catalog : List Stream) (ss : List syntax.WrittenSource) → list_any (λ s. is_none (number_in catalog s.stream)) ss ≡ false
     → AllByRecursion (λ n. n < length catalog) (map (λ s. unwrap_or (number_in catalog s.stream) 0) ss)
 known catalog [] h = tt
 known catalog (s ∷ ss) h =
@@ -246,7 +243,7 @@ columns_few : (most : ℕ) (catalog : List Stream) (o : Option ℕ) → AllByRec
 columns_few most catalog None h = omega arith
 columns_few most catalog (Some n) h = columns_at_few most catalog n h
 
-pub few : (most : ℕ) (catalog : List Stream) → AllByRecursion (λ s. length s.columns ≤ most) catalog → (ss : List syntax.Source)
+pub few : (most : ℕ) (catalog : List Stream) → AllByRecursion (λ s. length s.columns ≤ most) catalog → (ss : List syntax.WrittenSource)
     → sum (map (λ t. length t.columns) (tables catalog ss)) ≤ most * length ss
 few most catalog h [] = omega arith
 few most catalog h (s ∷ ss) =

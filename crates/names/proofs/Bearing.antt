@@ -3,16 +3,16 @@ use Rattle.std.proofs.Common.{◌≡◌, ℕ, suc, ◌+◌, Bool, true, false, �
 use Rattle.std.specs.List.{range_with_len}
 use Rattle.std.specs.Str.{bytes_eq}
 use Rattle.std.proofs.Math.Seq.{get_or-append_seam}
-use Rattle.values.specs.Condition.{Column}
+use Rattle.values.specs.Condition.{SourceColumn}
 use Rattle.cql_reader.specs.Query.{Reference}
 use Rattle.names.specs.Matches.{Table, allows, places, columns_at, matches_in, matches}
 use Rattle.names.specs.Resolved.{all_columns}
 
-abbrev source_at : List Table → Column → Table
+abbrev source_at : List Table → SourceColumn → Table
 source_at ts c = get_or ts c.source (record { name = []; columns = [] })
 
 -- the column has the reference's name, and its source the name of the qualifier, where there is one
-abbrev pub bears : List Table → Reference → Column → Bool
+abbrev pub bears : List Table → Reference → SourceColumn → Bool
 bears ts r c = allows r.qualifier (source_at ts c).name && bytes_eq (get_or (source_at ts c).columns c.column []) r.name
 
 filter-append : {X : Type 0} (p : X → Bool) (xs ys : List X) → filter p (xs ++ ys) ≡ filter p xs ++ filter p ys
@@ -25,18 +25,18 @@ filter-append p (x ∷ xs) ys = kept (p x) (filter-append p xs ys)
     kept false e = e
 
 -- the columns of a source that pass, where each passes as its place does
-filter-columns : (source : ℕ) (p : Column → Bool) (q : ℕ → Bool) → ((k : ℕ) → p (record { source = source; column = k }) ≡ q k)
+filter-columns : (source : ℕ) (p : SourceColumn → Bool) (q : ℕ → Bool) → ((k : ℕ) → p (record { source = source; column = k }) ≡ q k)
     → (ks : List ℕ) → filter p (columns_at source ks) ≡ columns_at source (filter q ks)
 filter-columns source p q agree [] = refl
 filter-columns source p q agree (k ∷ ks) =
     rw (agree k) (kept (q k) (filter-columns source p q agree ks))
   where
-    c : Column
+    c : SourceColumn
     c = record { source = source; column = k }
 
     kept : (b : Bool) → filter p (columns_at source ks) ≡ columns_at source (filter q ks)
         → cond b (record { source = source; column = k } ∷ filter p (columns_at source ks)) (filter p (columns_at source ks)) ≡ columns_at source (cond b (k ∷ filter q ks) (filter q ks))
-    kept true e = ap (λ (cs : List Column). record { source = source; column = k } ∷ cs) e
+    kept true e = ap (λ (cs : List SourceColumn). record { source = source; column = k } ∷ cs) e
     kept false e = e
 
 none-pass : (ks : List ℕ) → filter (λ k. false) ks ≡ []
@@ -86,8 +86,8 @@ matches_after before (t ∷ ts) r s e =
     let rest : matches (suc s) ts r ≡ filter (bears all r) (all_columns (suc s) ts) =
     matches_after (before ++ t ∷ []) ts r (suc s) longer
     ∙ ap (λ (us : List Table). filter (bears us r) (all_columns (suc s) ts)) (append_assoc before (t ∷ []) ts) in
-    ap (λ (cs : List Column). cs ++ matches (suc s) ts r) (matches_here all r s t is)
-    ∙ ap (λ (cs : List Column). filter (bears all r) (columns_at s (range_with_len 0 (length t.columns))) ++ cs) rest
+    ap (λ (cs : List SourceColumn). cs ++ matches (suc s) ts r) (matches_here all r s t is)
+    ∙ ap (λ (cs : List SourceColumn). filter (bears all r) (columns_at s (range_with_len 0 (length t.columns))) ++ cs) rest
     ∙ sym (filter-append (bears all r) (columns_at s (range_with_len 0 (length t.columns))) (all_columns (suc s) ts))
 
 -- OF ALL COLUMNS of the sources

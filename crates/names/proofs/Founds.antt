@@ -26,19 +26,19 @@ merged-assoc (One c) (One d) (Many e) = refl
 merged-assoc (One c) (Many d) h = refl
 merged-assoc (Many c) g h = refl
 
-pub found-cons : (c : conditions.Column) (cs : List conditions.Column) → found_of (c ∷ cs) ≡ merged (One (code_column c)) (found_of cs)
+pub found-cons : (c : conditions.SourceColumn) (cs : List conditions.SourceColumn) → found_of (c ∷ cs) ≡ merged (One (code_column c)) (found_of cs)
 found-cons c [] = refl
 found-cons c (d ∷ []) = refl
 found-cons c (d ∷ e ∷ cs) = refl
 
-pub found-append : (cs ds : List conditions.Column) → found_of (cs ++ ds) ≡ merged (found_of cs) (found_of ds)
+pub found-append : (cs ds : List conditions.SourceColumn) → found_of (cs ++ ds) ≡ merged (found_of cs) (found_of ds)
 found-append [] ds = refl
 found-append (c ∷ cs) ds =
     found-cons c (cs ++ ds) ∙ ap (λ f. merged (One (code_column c)) f) (found-append cs ds)
     ∙ sym (merged-assoc (One (code_column c)) (found_of cs) (found_of ds)) ∙ ap (λ f. merged f (found_of ds)) (sym (found-cons c cs))
 
 -- the first column of what was found is that of the matches
-pub first-found : (cs : List conditions.Column) → first_found (found_of cs) ≡ spec.first_column cs
+pub first-found : (cs : List conditions.SourceColumn) → first_found (found_of cs) ≡ spec.first_column cs
 first-found [] = refl
 first-found (c ∷ []) = refl
 first-found (c ∷ d ∷ cs) = refl
@@ -49,7 +49,7 @@ pub find_step : (f g : Found) (i : ℕ) (tables : List Table) (r : syntax.Refere
     → merged g (found_of (spec.matches (i + 1) (tables_of (drop (i + 1) tables)) r)) ≡ merged f (found_of (spec.matches i (tables_of (drop i tables)) r))
 find_step f g i tables r t l e k =
     let j : i + 1 ≡ suc i = omega arith in
-    let rest : List conditions.Column = spec.matches (suc i) (tables_of (drop (suc i) tables)) r in
+    let rest : List conditions.SourceColumn = spec.matches (suc i) (tables_of (drop (suc i) tables)) r in
     let d : drop i tables ≡ t ∷ drop (suc i) tables = drop-cons tables i t l ∙ ap (λ v. v ∷ drop (suc i) tables) (sym e) in
     rw j (rw d (rw k (merged-assoc f (found_of (spec.matches_in i r (table_of t))) (found_of rest) ∙ ap (merged f) (sym (found-append (spec.matches_in i r (table_of t)) rest)))))
 

@@ -1,7 +1,7 @@
 -- What is said of the sources' tables is said of the catalog.
 use Rattle.std.proofs.Common.{◌≡◌, Bool, Option, List, [], ◌∷◌, ◌++◌, map, flat_map, length, refl, sym, ap, ◌∙◌}
 use Rattle.std.specs.Option.{option_map}
-use Rattle.values.specs.Condition.{Column, Condition}
+use Rattle.values.specs.Condition.{SourceColumn, Condition}
 use Rattle.values.specs.Window.{Window}
 use Rattle.values.specs.Answers.{Resolved}
 use Rattle.cql_reader.specs.Query as syntax
@@ -9,7 +9,7 @@ use Rattle.std.proofs.lemmas.List.{length-map}
 use Rattle.values.specs.Resolved.{window_of as code_window}
 use Rattle.values.specs.declared.resolved.Window as code_windows
 use Rattle.cql_reader.specs.Views.{source_of, sources_of}
-use Rattle.cql_reader.specs.declared.query.Source.{Source}
+use Rattle.cql_reader.specs.declared.query.WrittenSource.{WrittenSource}
 use Rattle.names.specs.declared.matching.Table as code
 use Rattle.names.specs.Catalog.{Stream}
 use Rattle.names.specs.Matches.{Table, table_of, tables, matches_in, matches}
@@ -21,15 +21,15 @@ use Rattle.names.specs.Views.{table_of as code_table, tables_of, windows_in, par
 use Rattle.names.specs.Split.{all_conjuncts}
 use Rattle.names.specs.declared.verdict.Verdict.{Verdict}
 
-pub windows_in-tables : (catalog : List Stream) (ss : List syntax.Source) → windows_in (tables catalog ss) ss ≡ windows_of catalog ss
+pub windows_in-tables : (catalog : List Stream) (ss : List syntax.WrittenSource) → windows_in (tables catalog ss) ss ≡ windows_of catalog ss
 windows_in-tables catalog [] = refl
 windows_in-tables catalog (s ∷ ss) = ap (λ (ws : List Window). window_of (table_of catalog s) s.window ∷ ws) (windows_in-tables catalog ss)
 
-pub partitions_in-tables : (catalog : List Stream) (ss : List syntax.Source)
+pub partitions_in-tables : (catalog : List Stream) (ss : List syntax.WrittenSource)
     → partitions_in (tables catalog ss) ss ≡ flat_map (λ s. map (λ r. matches_in 0 r (table_of catalog s)) (partition_of s.window)) ss
 partitions_in-tables catalog [] = refl
 partitions_in-tables catalog (s ∷ ss) =
-    ap (λ (ms : List (List Column)). map (λ r. matches_in 0 r (table_of catalog s)) (partition_of s.window) ++ ms) (partitions_in-tables catalog ss)
+    ap (λ (ms : List (List SourceColumn)). map (λ r. matches_in 0 r (table_of catalog s)) (partition_of s.window) ++ ms) (partitions_in-tables catalog ss)
 
 pub resolved_in-tables : (catalog : List Stream) (q : syntax.Query) → resolved_in (tables catalog q.sources) q ≡ resolved q catalog
 resolved_in-tables catalog q = rw (windows_in-tables catalog q.sources) refl
@@ -50,7 +50,7 @@ pub verdict_is : (ts : List Table) (q : syntax.Query) (catalog : List Stream) (v
     → v ≡ verdict_of (partitions_in ts q.sources ++ map (matches 0 ts) (references q)) → v ≡ verdict_of (all_matches q catalog)
 verdict_is ts q catalog v t e =
     e ∙ ap (λ (ts : List Table). verdict_of (partitions_in ts q.sources ++ map (matches 0 ts) (references q))) t
-    ∙ ap (λ (ps : List (List Column)). verdict_of (ps ++ map (matches 0 (tables catalog q.sources)) (references q))) (partitions_in-tables catalog q.sources)
+    ∙ ap (λ (ps : List (List SourceColumn)). verdict_of (ps ++ map (matches 0 (tables catalog q.sources)) (references q))) (partitions_in-tables catalog q.sources)
 
 -- the first of seven tests that is met
 abbrev pub first_of_tests : Bool → Bool → Bool → Bool → Bool → Bool → Bool → Option ResolveFault
@@ -69,11 +69,11 @@ same_first a b c d e f g a' b' c' d' e' f' g' ea eb ec ed ee ef eg =
     ∙ ap (λ (x : Bool). first_of_tests a' b' c' d' e' f' x) eg
 
 -- there are as many tables as sources
-pub count_is : (xs : List code.Table) (catalog : List Stream) (ss : List Source) → tables_of xs ≡ tables catalog (sources_of ss) → length xs ≡ length ss
+pub count_is : (xs : List code.Table) (catalog : List Stream) (ss : List WrittenSource) → tables_of xs ≡ tables catalog (sources_of ss) → length xs ≡ length ss
 count_is xs catalog ss e =
     sym (length-map xs code_table) ∙ ap length e ∙ length-map (sources_of ss) (table_of catalog) ∙ length-map ss source_of
 
 -- and windows
-pub windows_count : (ws : List code_windows.Window) (catalog : List Stream) (ss : List Source) → map code_window ws ≡ windows_of catalog (sources_of ss) → length ws ≡ length ss
+pub windows_count : (ws : List code_windows.Window) (catalog : List Stream) (ss : List WrittenSource) → map code_window ws ≡ windows_of catalog (sources_of ss) → length ws ≡ length ss
 windows_count ws catalog ss e =
     sym (length-map ws code_window) ∙ ap length e ∙ length-map (sources_of ss) (λ s. window_of (table_of catalog s) s.window) ∙ length-map ss source_of

@@ -3,12 +3,15 @@ use Rattle.std.specs.Prelude.{◌≡◌, ℕ, false, Option, Some, None, pos, Li
 use Rattle.std.specs.Prelude.{replicate}
 use Rattle.values.specs.Condition as conditions
 use Rattle.values.specs.Condition.{Field}
+use Rattle.values.specs.declared.resolved.Aggregate.TheVariants.{Sum}
 use Rattle.values.specs.declared.resolved.Compare.TheVariants.{Equals, Above}
 use Rattle.values.specs.Window as windows
 use Rattle.values.specs.Relation as relations
 use Rattle.values.specs.Answers.{Istream}
-use Rattle.cql_reader.specs.Query.{Reference, Entry, Column, CountAll, Sum, Entries, All, Each, Now}
-use Rattle.cql_reader.specs.Query.{RangeSlide, Partition, Source, Named, Number, Condition}
+use Rattle.cql_reader.specs.Query.{Reference, WrittenEntry, Column, CountAll, Of, Entries, All}
+use Rattle.cql_reader.specs.Query.{Each, Now}
+use Rattle.cql_reader.specs.Query.{RangeSlide, Partition, WrittenSource, Named, Number}
+use Rattle.cql_reader.specs.Query.{WrittenCondition}
 use Rattle.cql_reader.specs.Query.{Compared, And, Or, Query}
 use Rattle.names.specs.Catalog.{Stream}
 use Rattle.names.specs.Resolved.{resolved, streams, widths}
@@ -28,13 +31,13 @@ plain n = record { qualifier = None; name = name n }
 abbrev pub dotted : ℕ → ℕ → Reference
 dotted q n = record { qualifier = Some (name q); name = name n }
 
-abbrev pub of : ℕ → Source
+abbrev pub of : ℕ → WrittenSource
 of n = record { stream = name n; window = Now; alias = None }
 
-abbrev pub called : ℕ → ℕ → Source
+abbrev pub called : ℕ → ℕ → WrittenSource
 called n a = record { stream = name n; window = Now; alias = Some (name a) }
 
-abbrev pub query : Entries → List Source → Option Condition → List Reference → Query
+abbrev pub query : Entries → List WrittenSource → Option WrittenCondition → List Reference → Query
 query es ss c g = record {
   operator = Istream;
   is_distinct = false;
@@ -44,7 +47,7 @@ query es ss c g = record {
   group = g;
 }
 
-abbrev pub equal : Reference → Reference → Condition
+abbrev pub equal : Reference → Reference → WrittenCondition
 equal a b = Compared (Named a) Equals (Named b)
 
 -- streams S(a), A(k), B(k, v), C(v)
@@ -90,7 +93,7 @@ unknown_column : first_fault (query (Each (Column (plain 98) ∷ [])) (of 83 ∷
 unknown_column = refl
 
 -- From B [Partition By k Rows 1], A: the k is that of B alone
-abbrev partitioned : Source
+abbrev partitioned : WrittenSource
 partitioned = record { stream = name 66; window = Partition (plain 107 ∷ []) 1; alias = None }
 
 own_source_alone : first_fault
@@ -119,14 +122,14 @@ not_in_group : first_fault (query (Each (Column (plain 118) ∷ [])) (of 66 ∷ 
 not_in_group = refl
 
 -- Select Istream(k, Sum(v)) From B Group By v, k: the item is the second column of Group By
-grouped : (resolved (query (Each (Column (plain 107) ∷ Sum (plain 118) ∷ [])) (of 66 ∷ []) None
+grouped : (resolved (query (Each (Column (plain 107) ∷ Of Sum (plain 118) ∷ [])) (of 66 ∷ []) None
     (plain 118 ∷ plain 107 ∷ [])) declared).shape
     ≡ relations.Grouped (record { source = 0; column = 1 } ∷ record { source = 0; column = 0 } ∷ [])
-    (relations.Key 1 ∷ relations.Sum (record { source = 0; column = 1 }) ∷ [])
+    (relations.Key 1 ∷ relations.Of Sum (record { source = 0; column = 1 }) ∷ [])
 grouped = refl
 
 -- 32 items are accepted, 33 are too many
-abbrev item : Entry
+abbrev item : WrittenEntry
 item = Column (plain 97)
 
 as_wide_as_may_be : first_fault
@@ -138,7 +141,7 @@ too_wide : first_fault (query (Each (replicate 33 item)) (of 83 ∷ []) None [])
 too_wide = refl
 
 -- Where A.k = B.k And B.v = C.v
-abbrev tied : Condition
+abbrev tied : WrittenCondition
 tied = And (equal (dotted 65 107) (dotted 66 107)) (equal (dotted 66 118) (dotted 67 118))
 
 -- From A, B, C

@@ -5,7 +5,7 @@ use Rattle.std.specs.List.{list_any, flat_map, range_with_len}
 use Rattle.std.specs.Option.{is_none}
 use Rattle.std.specs.Str.{bytes_eq}
 use Rattle.values.specs.declared.TheConstants.{MAX_COLUMNS}
-use Rattle.values.specs.Condition.{Column, Condition}
+use Rattle.values.specs.Condition.{SourceColumn, Condition}
 use Rattle.cql_reader.specs.Query as syntax
 use Rattle.names.specs.Catalog.{Stream, number_in}
 use Rattle.names.specs.Matches.{Table, name_of, table_of, tables, matches_in, matches, column_of}
@@ -17,23 +17,23 @@ use Rattle.names.specs.declared.fault.ResolveFault.TheVariants.{AmbiguousColumn,
 use Rattle.names.specs.declared.fault.ResolveFault.TheVariants.{NoJoinKey, NotGrouped, TooWide}
 
 -- the references of a condition
-abbrev pub references_of_operand : syntax.Operand → List syntax.Reference
+abbrev pub references_of_operand : syntax.WrittenOperand → List syntax.Reference
 references_of_operand (syntax.Named r) = r ∷ []
 references_of_operand (syntax.Number z) = []
 
-abbrev pub references_of_condition : syntax.Condition → List syntax.Reference
+abbrev pub references_of_condition : syntax.WrittenCondition → List syntax.Reference
 references_of_condition (syntax.Compared a how b) =
     references_of_operand a ++ references_of_operand b
 references_of_condition (syntax.Not c) = references_of_condition c
 references_of_condition (syntax.And c d) = references_of_condition c ++ references_of_condition d
 references_of_condition (syntax.Or c d) = references_of_condition c ++ references_of_condition d
 
-abbrev pub references_of_where : Option syntax.Condition → List syntax.Reference
+abbrev pub references_of_where : Option syntax.WrittenCondition → List syntax.Reference
 references_of_where None = []
 references_of_where (Some c) = references_of_condition c
 
 -- the columns of Partition By
-abbrev pub partition_of : syntax.Window → List syntax.Reference
+abbrev pub partition_of : syntax.WrittenWindow → List syntax.Reference
 partition_of syntax.Now = []
 partition_of (syntax.Range instants) = []
 partition_of (syntax.RangeSlide instants step) = []
@@ -43,20 +43,20 @@ partition_of (syntax.Partition by rows) = by
 
 -- what each reference of the query matches; in
 -- Partition By only the columns of its own source count
-abbrev pub partition_matches : syntax.Query → List Stream → List (List Column)
+abbrev pub partition_matches : syntax.Query → List Stream → List (List SourceColumn)
 partition_matches q catalog = flat_map
     (λ s. map (λ r. matches_in 0 r (table_of catalog s)) (partition_of s.window)) q.sources
 
-abbrev pub all_matches : syntax.Query → List Stream → List (List Column)
+abbrev pub all_matches : syntax.Query → List Stream → List (List SourceColumn)
 all_matches q catalog =
     partition_matches q catalog
     ++ map (matches 0 (tables catalog q.sources))
     (flat_map named_by (entry_list q.entries) ++ (references_of_where q.condition ++ q.group))
 
-abbrev pub is_missing : List Column → Bool
+abbrev pub is_missing : List SourceColumn → Bool
 is_missing found = length found == 0
 
-abbrev pub is_many : List Column → Bool
+abbrev pub is_many : List SourceColumn → Bool
 is_many found = nat_lt 1 (length found)
 
 abbrev pub has_repeat : List (List ℕ) → Bool
@@ -73,16 +73,13 @@ is_all syntax.All = true
 is_all (syntax.Each entries) = false
 
 -- an item is a column that Group By does not have
-abbrev pub is_outside : List Table → List Column → syntax.Entry → Bool
+abbrev pub is_outside : List Table → List SourceColumn → syntax.WrittenEntry → Bool
 is_outside ts by (syntax.Column r) = not (list_any (λ k. same_column k (column_of ts r)) by)
 is_outside ts by syntax.CountAll = false
-is_outside ts by (syntax.Count r) = false
-is_outside ts by (syntax.Sum r) = false
-is_outside ts by (syntax.Min r) = false
-is_outside ts by (syntax.Max r) = false
+is_outside ts by (syntax.Of a r) = false
 
 -- a list is `*`, or has a column that is none of these of Group By
-abbrev pub has_outside : List Table → List Column → syntax.Entries → Bool
+abbrev pub has_outside : List Table → List SourceColumn → syntax.Entries → Bool
 has_outside ts by entries = is_all entries || list_any (is_outside ts by) (entry_list entries)
 
 -- a grouped query lists `*`, or a column that Group By does not have

@@ -11,13 +11,15 @@ use std::alloc::{AllocError, Global};
 use values::{Condition, Operand};
 
 /// Resolves the name of a side of a comparison, if it has one.
-fn resolve_operand(tables: &[Table], operand: &cql_reader::Operand) -> Operand
+fn resolve_operand(tables: &[Table], operand: &cql_reader::WrittenOperand) -> Operand
     ensures { operand_of result
         ≡ spec.operand_of (tables_of tables.now) (syntax.operand_of operand.now) }
 {
     match operand {
-        cql_reader::Operand::Column(reference) => Operand::Field(named_column(tables, reference)),
-        cql_reader::Operand::Number(number) => Operand::Number(*number),
+        cql_reader::WrittenOperand::Column(reference) => Operand::Field(named_column(
+            tables, reference,
+        )),
+        cql_reader::WrittenOperand::Number(number) => Operand::Number(*number),
     }
 }
 
@@ -25,27 +27,27 @@ fn resolve_operand(tables: &[Table], operand: &cql_reader::Operand) -> Operand
 fn resolve_condition(
     alloc: Global,
     tables: &[Table],
-    condition: &cql_reader::Condition,
+    condition: &cql_reader::WrittenCondition,
 ) -> Result<Condition, AllocError>
     ensures { IfOk result (λ c. condition_of c
         ≡ spec.condition_of (tables_of tables.now) (syntax.condition_of condition.now)) }
 {
     match condition {
-        cql_reader::Condition::Compared(a, how, b) => Ok(Condition::Compared(
+        cql_reader::WrittenCondition::Compared(a, how, b) => Ok(Condition::Compared(
             resolve_operand(tables, a),
             *how,
             resolve_operand(tables, b),
         )),
-        cql_reader::Condition::Not(c) => Ok(Condition::Not(Box::new(
+        cql_reader::WrittenCondition::Not(c) => Ok(Condition::Not(Box::new(
             alloc,
             resolve_condition(alloc, tables, c)?,
         )?)),
-        cql_reader::Condition::And(c, d) => {
+        cql_reader::WrittenCondition::And(c, d) => {
             let left = Box::new(alloc, resolve_condition(alloc, tables, c)?)?;
             let right = Box::new(alloc, resolve_condition(alloc, tables, d)?)?;
             Ok(Condition::And(left, right))
         }
-        cql_reader::Condition::Or(c, d) => {
+        cql_reader::WrittenCondition::Or(c, d) => {
             let left = Box::new(alloc, resolve_condition(alloc, tables, c)?)?;
             let right = Box::new(alloc, resolve_condition(alloc, tables, d)?)?;
             Ok(Condition::Or(left, right))
@@ -57,7 +59,7 @@ fn resolve_condition(
 pub(crate) fn resolve_where(
     alloc: Global,
     tables: &[Table],
-    condition: &Option<cql_reader::Condition>,
+    condition: &Option<cql_reader::WrittenCondition>,
 ) -> Result<Option<Condition>, AllocError>
     ensures { IfOk result (λ o. where_of o
         ≡ option_map (spec.condition_of (tables_of tables.now)) (syntax.where_of condition.now)) }

@@ -9,16 +9,16 @@ ghost use Rattle.names.specs.Faults as faults;
 ghost use Rattle.names.specs.Views.{tables_of};
 
 use crate::matching::{Table, named_column};
-use cql_reader::{Entries, Entry, Query, Reference, Source, Window};
+use cql_reader::{Entries, Query, Reference, WrittenEntry, WrittenSource, WrittenWindow};
 use std::alloc::{AllocError, Global};
-use values::{Column, ListItem, MAX_COLUMNS, Shape};
+use values::{ListItem, MAX_COLUMNS, Shape, SourceColumn};
 
 /// Returns the columns that the references name.
 pub(crate) fn columns_of(
     alloc: Global,
     tables: &[Table],
     references: &[Reference],
-) -> Result<Vec<Column>, AllocError>
+) -> Result<Vec<SourceColumn>, AllocError>
     ensures { IfOk result (λ v. columns_of v.items
         ≡ map (matches.column_of (tables_of tables.now)) (syntax.references_of references.now)) }
 {
@@ -30,19 +30,23 @@ pub(crate) fn columns_of(
 }
 
 /// Adds the columns of a source.
-fn add_columns(columns: &mut Vec<Column>, source: usize, width: usize) -> Result<(), AllocError>
+fn add_columns(
+    columns: &mut Vec<SourceColumn>,
+    source: usize,
+    width: usize,
+) -> Result<(), AllocError>
     ensures { OnOk result (columns_of columns.new.items
         ≡ columns_of columns.old.items
         ++ map (λ k. record { source = source; column = k }) (range_with_len 0 width)) }
 {
     for column in 0..width {
-        columns.push(Column { source, column })?;
+        columns.push(SourceColumn { source, column })?;
     }
     Ok(())
 }
 
 /// Returns all columns of the sources.
-fn all_columns(alloc: Global, tables: &[Table]) -> Result<Vec<Column>, AllocError>
+fn all_columns(alloc: Global, tables: &[Table]) -> Result<Vec<SourceColumn>, AllocError>
     ensures { IfOk result (λ v. columns_of v.items ≡ spec.all_columns 0 (tables_of tables.now)) }
 {
     let mut columns = Vec::new(alloc);
@@ -53,19 +57,20 @@ fn all_columns(alloc: Global, tables: &[Table]) -> Result<Vec<Column>, AllocErro
 }
 
 /// Adds the column of an item, where it has one.
-fn add_entry(columns: &mut Vec<Column>, tables: &[Table], entry: &Entry) -> Result<(), AllocError>
+fn add_entry(
+    columns: &mut Vec<SourceColumn>,
+    tables: &[Table],
+    entry: &WrittenEntry,
+) -> Result<(), AllocError>
     ensures { OnOk result (columns_of columns.new.items
         ≡ columns_of columns.old.items
         ++ map (matches.column_of (tables_of tables.now))
         (spec.named_by (syntax.entry_of entry.now))) }
 {
     match entry {
-        Entry::CountAll => {}
-        Entry::Column(reference) => columns.push(named_column(tables, reference))?,
-        Entry::Count(reference) => columns.push(named_column(tables, reference))?,
-        Entry::Sum(reference) => columns.push(named_column(tables, reference))?,
-        Entry::Min(reference) => columns.push(named_column(tables, reference))?,
-        Entry::Max(reference) => columns.push(named_column(tables, reference))?,
+        WrittenEntry::CountAll => {}
+        WrittenEntry::Column(reference) => columns.push(named_column(tables, reference))?,
+        WrittenEntry::Of(_, reference) => columns.push(named_column(tables, reference))?,
     }
     Ok(())
 }
@@ -74,8 +79,8 @@ fn add_entry(columns: &mut Vec<Column>, tables: &[Table], entry: &Entry) -> Resu
 fn entry_columns(
     alloc: Global,
     tables: &[Table],
-    entries: &[Entry],
-) -> Result<Vec<Column>, AllocError>
+    entries: &[WrittenEntry],
+) -> Result<Vec<SourceColumn>, AllocError>
     ensures { IfOk result (λ v. columns_of v.items
         ≡ map (matches.column_of (tables_of tables.now))
         (flat_map spec.named_by (map syntax.entry_of entries.now))) }
@@ -92,7 +97,7 @@ fn listed_columns(
     alloc: Global,
     tables: &[Table],
     entries: &Entries,
-) -> Result<Vec<Column>, AllocError>
+) -> Result<Vec<SourceColumn>, AllocError>
     ensures { IfOk result (λ v. columns_of v.items
         ≡ spec.listed_columns (tables_of tables.now) (syntax.entries_of entries.now)) }
 {
@@ -103,7 +108,7 @@ fn listed_columns(
 }
 
 /// Returns the first place of a column among columns.
-fn place_among(column: Column, columns: &[Column]) -> Option<usize>
+fn place_among(column: SourceColumn, columns: &[SourceColumn]) -> Option<usize>
     ensures { result
         ≡ position (λ k. spec.same_column (column_of k) (column_of column)) columns.now }
 {
@@ -111,7 +116,7 @@ fn place_among(column: Column, columns: &[Column]) -> Option<usize>
 }
 
 /// Returns whether a column is among columns.
-fn is_among(column: Column, columns: &[Column]) -> bool
+fn is_among(column: SourceColumn, columns: &[SourceColumn]) -> bool
     ensures { result
         ≡ list_any (λ k. spec.same_column (column_of k) (column_of column)) columns.now }
 {
@@ -119,24 +124,26 @@ fn is_among(column: Column, columns: &[Column]) -> bool
 }
 
 /// Returns the place of a column in Group By; 0 where it is none of them.
-fn key_place(column: Column, by: &[Column]) -> usize
+fn key_place(column: SourceColumn, by: &[SourceColumn]) -> usize
     ensures { result ≡ spec.key_place (column_of column) (columns_of by.now) }
 {
     place_among(column, by).unwrap_or(0)
 }
 
 /// Returns an item of the list of a grouped query.
-fn item_of(tables: &[Table], by: &[Column], entry: &Entry) -> ListItem
+fn item_of(tables: &[Table], by: &[SourceColumn], entry: &WrittenEntry) -> ListItem
     ensures { item_of result
         ≡ spec.item_of (tables_of tables.now) (columns_of by.now) (syntax.entry_of entry.now) }
 {
     match entry {
-        Entry::Column(reference) => ListItem::Key(key_place(named_column(tables, reference), by)),
-        Entry::CountAll => ListItem::CountAll,
-        Entry::Count(reference) => ListItem::Count(named_column(tables, reference)),
-        Entry::Sum(reference) => ListItem::Sum(named_column(tables, reference)),
-        Entry::Min(reference) => ListItem::Min(named_column(tables, reference)),
-        Entry::Max(reference) => ListItem::Max(named_column(tables, reference)),
+        WrittenEntry::Column(reference) => ListItem::Key(key_place(
+            named_column(tables, reference),
+            by,
+        )),
+        WrittenEntry::CountAll => ListItem::CountAll,
+        WrittenEntry::Of(aggregate, reference) => {
+            ListItem::Of(*aggregate, named_column(tables, reference))
+        }
     }
 }
 
@@ -144,8 +151,8 @@ fn item_of(tables: &[Table], by: &[Column], entry: &Entry) -> ListItem
 fn items_of(
     alloc: Global,
     tables: &[Table],
-    by: &[Column],
-    entries: &[Entry],
+    by: &[SourceColumn],
+    entries: &[WrittenEntry],
 ) -> Result<Vec<ListItem>, AllocError>
     ensures { IfOk result (λ v. items_of v.items
         ≡ map (spec.item_of (tables_of tables.now) (columns_of by.now))
@@ -159,7 +166,7 @@ fn items_of(
 }
 
 /// Lends the items of a list; `*` has none of its own.
-fn entry_list(entries: &Entries) -> &[Entry]
+fn entry_list(entries: &Entries) -> &[WrittenEntry]
     ensures { map syntax.entry_of result.now ≡ spec.entry_list (syntax.entries_of entries.now) }
 {
     match entries {
@@ -169,17 +176,17 @@ fn entry_list(entries: &Entries) -> &[Entry]
 }
 
 /// Returns whether the item is an aggregate.
-fn is_aggregate(entry: &Entry) -> bool
+fn is_aggregate(entry: &WrittenEntry) -> bool
     ensures { result ≡ spec.is_aggregate (syntax.entry_of entry.now) }
 {
     match entry {
-        Entry::Column(_) => false,
+        WrittenEntry::Column(_) => false,
         _ => true,
     }
 }
 
 /// Returns whether one of the items is an aggregate.
-fn has_aggregate(entries: &[Entry]) -> bool
+fn has_aggregate(entries: &[WrittenEntry]) -> bool
     ensures { result ≡ list_any (λ e. spec.is_aggregate (syntax.entry_of e)) entries.now }
 {
     entries.iter().any(|entry| is_aggregate(entry))
@@ -206,7 +213,7 @@ fn is_grouped(query: &Query) -> bool
 pub(crate) fn shape_of(
     alloc: Global,
     tables: &[Table],
-    by: Vec<Column>,
+    by: Vec<SourceColumn>,
     query: &Query,
 ) -> Result<Shape, AllocError>
     requires { columns_of by.items
@@ -223,18 +230,18 @@ pub(crate) fn shape_of(
 }
 
 /// Returns whether an item is a column that Group By does not have.
-fn is_outside(tables: &[Table], by: &[Column], entry: &Entry) -> bool
+fn is_outside(tables: &[Table], by: &[SourceColumn], entry: &WrittenEntry) -> bool
     ensures { result
         ≡ faults.is_outside (tables_of tables.now) (columns_of by.now) (syntax.entry_of entry.now) }
 {
     match entry {
-        Entry::Column(reference) => !is_among(named_column(tables, reference), by),
+        WrittenEntry::Column(reference) => !is_among(named_column(tables, reference), by),
         _ => false,
     }
 }
 
 /// Returns whether some item is a column that Group By does not have.
-fn is_some_outside(tables: &[Table], by: &[Column], entries: &[Entry]) -> bool
+fn is_some_outside(tables: &[Table], by: &[SourceColumn], entries: &[WrittenEntry]) -> bool
     ensures { result
         ≡ list_any (λ e.
         faults.is_outside (tables_of tables.now) (columns_of by.now) (syntax.entry_of e))
@@ -244,7 +251,7 @@ fn is_some_outside(tables: &[Table], by: &[Column], entries: &[Entry]) -> bool
 }
 
 /// Returns whether a list is `*`, or has a column that Group By does not have.
-fn has_outside(tables: &[Table], by: &[Column], entries: &Entries) -> bool
+fn has_outside(tables: &[Table], by: &[SourceColumn], entries: &Entries) -> bool
     ensures { result
         ≡ faults.has_outside (tables_of tables.now) (columns_of by.now)
         (syntax.entries_of entries.now) }
@@ -257,7 +264,7 @@ fn has_outside(tables: &[Table], by: &[Column], entries: &Entries) -> bool
 
 /// Returns whether a grouped query lists `*`, or a column that Group By does not have. Group By's
 /// columns are these.
-pub(crate) fn is_ungrouped(tables: &[Table], by: &[Column], query: &Query) -> bool
+pub(crate) fn is_ungrouped(tables: &[Table], by: &[SourceColumn], query: &Query) -> bool
     requires { columns_of by.now
         ≡ map (matches.column_of (tables_of tables.now)) (syntax.query_of query.now).group }
     ensures { result ≡ faults.is_ungrouped (tables_of tables.now) (syntax.query_of query.now) }
@@ -266,18 +273,18 @@ pub(crate) fn is_ungrouped(tables: &[Table], by: &[Column], query: &Query) -> bo
 }
 
 /// Returns whether a source's Partition By has more than `MAX_COLUMNS`.
-fn is_wide_source(source: &Source) -> bool
+fn is_wide_source(source: &WrittenSource) -> bool
     ensures { result
         ≡ nat_lt MAX_COLUMNS (length (faults.partition_of (syntax.source_of source.now).window)) }
 {
     match &source.window {
-        Window::Partition(by, _) => by.len() > MAX_COLUMNS,
+        WrittenWindow::Partition(by, _) => by.len() > MAX_COLUMNS,
         _ => false,
     }
 }
 
 /// Returns whether a Partition By has more than `MAX_COLUMNS`.
-fn has_wide_source(sources: &[Source]) -> bool
+fn has_wide_source(sources: &[WrittenSource]) -> bool
     ensures { result
         ≡ list_any (λ s.
         nat_lt MAX_COLUMNS (length (faults.partition_of (syntax.source_of s).window))) sources.now }

@@ -17,5 +17,5 @@ mod verdict;
 
 pub use fault::{ResolveError, ResolveFault};
 pub use meaning::{Named, resolve};
-pub use split::Key;
+pub use split::SourceKey;
 pub use streams::Catalog;

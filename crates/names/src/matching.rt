@@ -6,7 +6,7 @@ ghost use Rattle.names.specs.Matches as spec;
 ghost use Rattle.names.specs.Views.{first_found, found_of, table_of, tables_of, merged};
 
 use cql_reader::{Name, Reference};
-use values::Column;
+use values::SourceColumn;
 
 /// Is a source with its name in the query and the columns of its stream.
 #[derive(Clone, Copy)]
@@ -23,9 +23,9 @@ pub(crate) enum Found {
     /// Says that no column matches.
     Missing,
     /// Holds the only column that matches.
-    One(Column),
+    One(SourceColumn),
     /// Holds the first of the columns that match.
-    Many(Column),
+    Many(SourceColumn),
 }
 
 impl Found {
@@ -42,11 +42,11 @@ impl Found {
     }
 
     /// Returns the first column that was found.
-    fn column(self) -> Column
+    fn column(self) -> SourceColumn
         ensures { column_of result ≡ first_found self }
     {
         match self {
-            Found::Missing => Column {
+            Found::Missing => SourceColumn {
                 source: 0,
                 column: 0,
             },
@@ -63,7 +63,7 @@ fn find_there(source: usize, place: usize, name: &Name, column: &Name) -> Found
         (spec.places place (syntax.name_of name.now) (syntax.name_of column.now ∷ []))) }
 {
     if column.as_bytes() == name.as_bytes() {
-        Found::One(Column {
+        Found::One(SourceColumn {
             source,
             column: place,
         })
@@ -121,7 +121,7 @@ pub(crate) fn find(tables: &[Table], reference: &Reference) -> Found
 }
 
 /// Returns the column that the reference names.
-pub(crate) fn named_column(tables: &[Table], reference: &Reference) -> Column
+pub(crate) fn named_column(tables: &[Table], reference: &Reference) -> SourceColumn
     ensures { column_of result
         ≡ spec.column_of (tables_of tables.now) (syntax.reference_of reference.now) }
 {

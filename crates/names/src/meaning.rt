@@ -23,12 +23,12 @@ use crate::matching::Table;
 use crate::sources::{
     has_repeat, has_unknown_stream, streams_of, tables_of, widths_of, windows_of,
 };
-use crate::split::{Key, join_keys_of, lacks_key, own_of, rest_of};
+use crate::split::{SourceKey, join_keys_of, lacks_key, own_of, rest_of};
 use crate::streams::Catalog;
 use crate::verdict::judge_query;
 use cql_reader::Query;
 use std::alloc::{AllocError, Global};
-use values::{Column, Condition, Resolved};
+use values::{Condition, Resolved, SourceColumn};
 
 /// Holds a query with its names resolved. The sources count from 0 in the order of From.
 #[derive(Drop)]
@@ -43,7 +43,7 @@ pub struct Named {
     /// else those do that have a column, and all of whose columns are of the source.
     pub own: Vec<Vec<Condition>>,
     /// Holds the keys of the second source, and of each later one, with those before it.
-    pub keys: Vec<Vec<Key>>,
+    pub keys: Vec<Vec<SourceKey>>,
     /// Holds the conjuncts that belong to no source and are no key.
     pub rest: Vec<Condition>,
 }
@@ -105,7 +105,7 @@ fn test(
     query: &Query,
     catalog: &Catalog,
     tables: &[Table],
-    by: &[Column],
+    by: &[SourceColumn],
     condition: &Option<Condition>,
 ) -> Result<(), ResolveFault>
     requires tables { views.tables_of tables.now
@@ -135,7 +135,7 @@ fn meaning_of(
     alloc: Global,
     query: &Query,
     tables: &[Table],
-    by: Vec<Column>,
+    by: Vec<SourceColumn>,
     condition: Option<Condition>,
 ) -> Result<Resolved, AllocError>
     requires sources { length tables.now ≡ length query.now.sources.items }
@@ -165,7 +165,7 @@ fn named_of(
     query: &Query,
     catalog: &Catalog,
     tables: &[Table],
-    by: Vec<Column>,
+    by: Vec<SourceColumn>,
     condition: Option<Condition>,
 ) -> Result<Named, AllocError>
     requires sources { length tables.now ≡ length query.now.sources.items }

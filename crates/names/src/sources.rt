@@ -13,12 +13,12 @@ ghost use Rattle.std.specs.Str.{bytes_eq};
 
 use crate::matching::{Table, place_in};
 use crate::streams::Catalog;
-use cql_reader::{Name, Reference, Source};
+use cql_reader::{Name, Reference, WrittenSource};
 use std::alloc::{AllocError, Global};
 use values::Window;
 
 /// Returns the name of a source: its alias, otherwise its stream.
-pub(crate) fn name_of(source: &Source) -> Name
+pub(crate) fn name_of(source: &WrittenSource) -> Name
     ensures { syntax.name_of result ≡ spec.name_of (syntax.source_of source.now) }
 {
     match source.alias {
@@ -31,7 +31,7 @@ pub(crate) fn name_of(source: &Source) -> Name
 pub(crate) fn tables_of<'a>(
     alloc: Global,
     catalog: &'a Catalog,
-    sources: &[Source],
+    sources: &[WrittenSource],
 ) -> Result<Vec<Table<'a>>, AllocError>
     ensures { IfOk result (λ v. tables_of v.items
         ≡ spec.tables catalog.now (syntax.sources_of sources.now)) }
@@ -50,7 +50,7 @@ pub(crate) fn tables_of<'a>(
 pub(crate) fn streams_of(
     alloc: Global,
     catalog: &Catalog,
-    sources: &[Source],
+    sources: &[WrittenSource],
 ) -> Result<Vec<usize>, AllocError>
     ensures { IfOk result (λ v. v.items
         ≡ map (λ s. unwrap_or (number_in catalog.now s.stream) 0) (syntax.sources_of sources.now)) }
@@ -74,7 +74,7 @@ pub(crate) fn widths_of(alloc: Global, tables: &[Table]) -> Result<Vec<usize>, A
 }
 
 /// Returns whether a source names no declared stream.
-pub(crate) fn has_unknown_stream(catalog: &Catalog, sources: &[Source]) -> bool
+pub(crate) fn has_unknown_stream(catalog: &Catalog, sources: &[WrittenSource]) -> bool
     ensures { result
         ≡ list_any (λ s. is_none (number_in catalog.now (syntax.source_of s).stream)) sources.now }
 {
@@ -101,20 +101,20 @@ fn places_of(
 fn window_of(
     alloc: Global,
     table: &Table,
-    window: &cql_reader::Window,
+    window: &cql_reader::WrittenWindow,
 ) -> Result<Window, AllocError>
     ensures { IfOk result (λ w. window_of w
         ≡ meaning.window_of (table_of table.now) (syntax.window_of window.now)) }
 {
     match window {
-        cql_reader::Window::Now => Ok(Window::Range(0)),
-        cql_reader::Window::Range(instants) => Ok(Window::Range(*instants)),
-        cql_reader::Window::RangeSlide(instants, step) => {
+        cql_reader::WrittenWindow::Now => Ok(Window::Range(0)),
+        cql_reader::WrittenWindow::Range(instants) => Ok(Window::Range(*instants)),
+        cql_reader::WrittenWindow::RangeSlide(instants, step) => {
             Ok(Window::RangeSlide(*instants, *step))
         }
-        cql_reader::Window::Unbounded => Ok(Window::Unbounded),
-        cql_reader::Window::Rows(rows) => Ok(Window::LastRows(Vec::new(alloc), *rows)),
-        cql_reader::Window::Partition(by, rows) => Ok(Window::LastRows(
+        cql_reader::WrittenWindow::Unbounded => Ok(Window::Unbounded),
+        cql_reader::WrittenWindow::Rows(rows) => Ok(Window::LastRows(Vec::new(alloc), *rows)),
+        cql_reader::WrittenWindow::Partition(by, rows) => Ok(Window::LastRows(
             places_of(alloc, table, by)?,
             *rows,
         )),
@@ -125,7 +125,7 @@ fn window_of(
 pub(crate) fn windows_of(
     alloc: Global,
     tables: &[Table],
-    sources: &[Source],
+    sources: &[WrittenSource],
 ) -> Result<Vec<Window>, AllocError>
     requires { length tables.now ≡ length sources.now }
     ensures { IfOk result (λ v. map window_of v.items
@@ -139,7 +139,7 @@ pub(crate) fn windows_of(
 }
 
 /// Returns whether two sources have the same name.
-pub(crate) fn has_repeat(sources: &[Source]) -> bool
+pub(crate) fn has_repeat(sources: &[WrittenSource]) -> bool
     ensures { result ≡ faults.has_repeat (map spec.name_of (syntax.sources_of sources.now)) }
 {
     match sources {
@@ -149,7 +149,7 @@ pub(crate) fn has_repeat(sources: &[Source]) -> bool
 }
 
 /// Returns whether a source has the name.
-fn is_name_among(name: &[u8], sources: &[Source]) -> bool
+fn is_name_among(name: &[u8], sources: &[WrittenSource]) -> bool
     ensures { result
         ≡ list_any (λ s. bytes_eq name.now (spec.name_of (syntax.source_of s))) sources.now }
 {
@@ -159,7 +159,7 @@ fn is_name_among(name: &[u8], sources: &[Source]) -> bool
 }
 
 /// Returns whether one of the others has the name of the source.
-fn has_namesake(source: &Source, others: &[Source]) -> bool
+fn has_namesake(source: &WrittenSource, others: &[WrittenSource]) -> bool
     ensures { result
         ≡ list_any (bytes_eq (spec.name_of (syntax.source_of source.now)))
         (map spec.name_of (syntax.sources_of others.now)) }

@@ -10,7 +10,10 @@ ghost use Rattle.names.specs.Views.{table_of, tables_of, verdict_of, verdict_on,
 ghost use Rattle.names.specs.Views.{judged, partitions_in};
 
 use crate::matching::{Found, Table, find, find_at};
-use cql_reader::{Condition, Entries, Entry, Operand, Query, Reference, Source, Window};
+use cql_reader::{
+    Entries, Query, Reference, WrittenCondition, WrittenEntry, WrittenOperand, WrittenSource,
+    WrittenWindow,
+};
 
 /// Says whether some reference matches no column, and whether some matches more than one.
 #[derive(Clone, Copy)]
@@ -79,21 +82,18 @@ fn judge_all(tables: &[Table], references: &[Reference]) -> Verdict
 }
 
 /// Judges the reference of an item.
-fn judge_entry(tables: &[Table], entry: &Entry) -> Verdict
+fn judge_entry(tables: &[Table], entry: &WrittenEntry) -> Verdict
     ensures { result ≡ verdict_on (tables_of tables.now) (named_by (syntax.entry_of entry.now)) }
 {
     match entry {
-        Entry::CountAll => Verdict::good(),
-        Entry::Column(reference) => judge(tables, reference),
-        Entry::Count(reference) => judge(tables, reference),
-        Entry::Sum(reference) => judge(tables, reference),
-        Entry::Min(reference) => judge(tables, reference),
-        Entry::Max(reference) => judge(tables, reference),
+        WrittenEntry::CountAll => Verdict::good(),
+        WrittenEntry::Column(reference) => judge(tables, reference),
+        WrittenEntry::Of(_, reference) => judge(tables, reference),
     }
 }
 
 /// Judges the references of items.
-fn judge_entries(tables: &[Table], entries: &[Entry]) -> Verdict
+fn judge_entries(tables: &[Table], entries: &[WrittenEntry]) -> Verdict
     ensures { result
         ≡ verdict_on (tables_of tables.now) (flat_map named_by (map syntax.entry_of entries.now)) }
 {
@@ -117,33 +117,35 @@ fn judge_list(tables: &[Table], entries: &Entries) -> Verdict
 }
 
 /// Judges a side of a comparison.
-fn judge_operand(tables: &[Table], operand: &Operand) -> Verdict
+fn judge_operand(tables: &[Table], operand: &WrittenOperand) -> Verdict
     ensures { result
         ≡ verdict_on (tables_of tables.now)
         (references_of_operand (syntax.operand_of operand.now)) }
 {
     match operand {
-        Operand::Column(reference) => judge(tables, reference),
-        Operand::Number(_) => Verdict::good(),
+        WrittenOperand::Column(reference) => judge(tables, reference),
+        WrittenOperand::Number(_) => Verdict::good(),
     }
 }
 
 /// Judges the references of a condition.
-fn judge_condition(tables: &[Table], condition: &Condition) -> Verdict
+fn judge_condition(tables: &[Table], condition: &WrittenCondition) -> Verdict
     ensures { result
         ≡ verdict_on (tables_of tables.now)
         (references_of_condition (syntax.condition_of condition.now)) }
 {
     match condition {
-        Condition::Compared(a, _, b) => judge_operand(tables, a).and(judge_operand(tables, b)),
-        Condition::Not(c) => judge_condition(tables, c),
-        Condition::And(c, d) => judge_condition(tables, c).and(judge_condition(tables, d)),
-        Condition::Or(c, d) => judge_condition(tables, c).and(judge_condition(tables, d)),
+        WrittenCondition::Compared(a, _, b) => judge_operand(tables, a).and(judge_operand(
+            tables, b,
+        )),
+        WrittenCondition::Not(c) => judge_condition(tables, c),
+        WrittenCondition::And(c, d) => judge_condition(tables, c).and(judge_condition(tables, d)),
+        WrittenCondition::Or(c, d) => judge_condition(tables, c).and(judge_condition(tables, d)),
     }
 }
 
 /// Judges the references of Where.
-fn judge_where(tables: &[Table], condition: &Option<Condition>) -> Verdict
+fn judge_where(tables: &[Table], condition: &Option<WrittenCondition>) -> Verdict
     ensures { result
         ≡ verdict_on (tables_of tables.now) (references_of_where (syntax.where_of condition.now)) }
 {
@@ -168,24 +170,24 @@ fn judge_within(table: &Table, references: &[Reference]) -> Verdict
 }
 
 /// Judges the columns of Partition By.
-fn judge_window(table: &Table, window: &Window) -> Verdict
+fn judge_window(table: &Table, window: &WrittenWindow) -> Verdict
     ensures { result
         ≡ verdict_of
         (map (λ r. spec.matches_in 0 r (table_of table.now))
         (partition_of (syntax.window_of window.now))) }
 {
     match window {
-        Window::Partition(by, _) => judge_within(table, by),
-        Window::Now => Verdict::good(),
-        Window::Range(_) => Verdict::good(),
-        Window::RangeSlide(_, _) => Verdict::good(),
-        Window::Unbounded => Verdict::good(),
-        Window::Rows(_) => Verdict::good(),
+        WrittenWindow::Partition(by, _) => judge_within(table, by),
+        WrittenWindow::Now => Verdict::good(),
+        WrittenWindow::Range(_) => Verdict::good(),
+        WrittenWindow::RangeSlide(_, _) => Verdict::good(),
+        WrittenWindow::Unbounded => Verdict::good(),
+        WrittenWindow::Rows(_) => Verdict::good(),
     }
 }
 
 /// Judges the columns of each Partition By; there are as many sources as tables.
-fn judge_windows(tables: &[Table], sources: &[Source]) -> Verdict
+fn judge_windows(tables: &[Table], sources: &[WrittenSource]) -> Verdict
     requires { length tables.now ≡ length sources.now }
     ensures { result
         ≡ verdict_of (partitions_in (tables_of tables.now) (syntax.sources_of sources.now)) }

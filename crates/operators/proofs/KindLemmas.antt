@@ -8,7 +8,7 @@ use Rattle.group.specs.Turns.{GroupState, ShownState, row_after, rows_after}
 use Rattle.group.specs.Turns as groups
 use Rattle.windows.specs.Latest.{LatestState}
 use Rattle.turn.specs.Turns.{FitsKind}
-use Rattle.turn.specs.declared.excerpts.Near.{Near}
+use Rattle.turn.specs.declared.excerpts.Excerpt.{Excerpt}
 use Rattle.turn.specs.declared.kinds.Kind.{Kind}
 use Rattle.turn.specs.declared.kinds.Kind.TheVariants as kind
 use Rattle.turn.specs.declared.outcomes.Change.{Change}
@@ -18,7 +18,7 @@ use Rattle.operators.specs.declared.states.State.{State}
 use Rattle.operators.specs.declared.states.State.TheVariants.{Range, Slide, Latest, Nothing, Join, Groups, Root}
 
 -- an excerpt that fits the state fits a turn of the kind
-pub near_fits : (k : Kind) (s : State) (side : Side) (i : Item) (n : Near) → Belongs k s → HasNamedColumns k i → FitsState s i n → FitsKind k side i n
+pub near_fits : (k : Kind) (s : State) (side : Side) (i : Item) (n : Excerpt) → Belongs k s → HasNamedColumns k i → FitsState s i n → FitsKind k side i n
 near_fits kind.RangeWindow s side i n b h f = subst (λ t. FitsState t i n) b.1 f
 near_fits kind.SlideWindow s side i n b h f = subst (λ t. FitsState t i n) b.1 f
 near_fits kind.LatestWindow s side i n b h f = subst (λ t. FitsState t i n) b.1 f

@@ -1,11 +1,11 @@
 -- An operator passes instants at which it has nothing to do.
-use Rattle.std.specs.Prelude.{ℕ, ◌≡◌, ◌-◌, ◌<◌, ◌≤◌, false, List, []}
+use Rattle.std.specs.Prelude.{ℕ, ◌≡◌, ◌-◌, false, []}
 use Rattle.std.specs.List.{filter}
 use Rattle.op_queue.specs.Cursors.{HasLeft, IsClear}
 use Rattle.op_queue.specs.Logs.{Closed}
 use Rattle.to_stream.specs.Turns as root
 use Rattle.windows.specs.Range.{is_past}
-use Rattle.windows.specs.Slide.{moves}
+use Rattle.windows.specs.Slide.{Stays}
 use Rattle.operators.specs.Inboxes.{entries_in}
 use Rattle.operators.specs.Operators.{PlainOperator}
 use Rattle.operators.specs.declared.inboxes.Inbox.{Inbox}
@@ -14,12 +14,11 @@ use Rattle.operators.specs.declared.states.State.{State}
 use Rattle.operators.specs.declared.states.State.TheVariants.{Range, Slide, Latest, Nothing, Join}
 use Rattle.operators.specs.declared.states.State.TheVariants.{Groups, Root}
 
--- NOTHING IS TO BE DONE from the instant n to below b: no row leaves a window, none of the instants
--- is a multiple of a Slide, no side of a join has ticked, no group was touched, and nothing has
--- come to a root that would answer
+-- NOTHING IS TO BE DONE from the instant n to below b: no row leaves a window or enters it, no side
+-- of a join has ticked, no group was touched, and nothing has come to a root that would answer
 abbrev pub IsQuiet : ℕ → ℕ → State → Type 0
 IsQuiet n b (Range s) = filter (is_past s.span (b - 1)) s.held ≡ []
-IsQuiet n b (Slide s) = (t : ℕ) → n ≤ t → t < b → moves s.step t ≡ false
+IsQuiet n b (Slide s) = Stays n b s
 IsQuiet n b (Latest s) = Unit {0}
 IsQuiet n b Nothing = Unit {0}
 IsQuiet n b (Join s) = (s.left.ticked ≡ false) × (s.right.ticked ≡ false)

@@ -7,7 +7,7 @@ use Rattle.op_queue.specs.Items.{IsFrontPart, entries_of}
 use Rattle.op_queue.specs.Logs.{Closed}
 use Rattle.op_queue.specs.declared.item.Item.{Item}
 use Rattle.turn.specs.Turns.{Answered, FitsKind, Outs, Put, change_at, outs_at, outs_in}
-use Rattle.turn.specs.declared.excerpts.Near.{Near}
+use Rattle.turn.specs.declared.excerpts.Excerpt.{Excerpt}
 use Rattle.turn.specs.declared.kinds.Kind.{Kind}
 use Rattle.turn.specs.declared.kinds.Kind.TheVariants as kind
 use Rattle.turn.specs.declared.outcomes.Change.{Change}
@@ -91,7 +91,7 @@ abbrev pub HasItem : PlainOperator → Closed → Side → ℕ → Type 0
 HasItem o log side rows = (i : Item) × IsInHand o log side rows i
 
 -- what a turn makes of an item with an excerpt
-pub record IsMade (k : Kind) (side : Side) (i : Item) (n : Near) (d : Parts) : Type 0 where
+pub record IsMade (k : Kind) (side : Side) (i : Item) (n : Excerpt) (d : Parts) : Type 0 where
   pub item : d.item ≡ i
   pub outputs : outs_in d.outputs ≡ outs_at k side i n
   pub change : d.change ≡ change_at k i n

@@ -19,8 +19,8 @@ use Rattle.windows.specs.Slide.{SlideState}
 use Rattle.windows.specs.Range.{RangeState, IsAfter}
 use Rattle.windows.specs.Widths.{IsItemWide}
 use Rattle.turn.specs.Turns.{FitsRange, FitsLatest, FitsJoin, FitsGroup, FitsRoot, FitsSlide}
-use Rattle.turn.specs.declared.excerpts.Near.{Near}
-use Rattle.turn.specs.declared.excerpts.Near.TheVariants as near
+use Rattle.turn.specs.declared.excerpts.Excerpt.{Excerpt}
+use Rattle.turn.specs.declared.excerpts.Excerpt.TheVariants as near
 use Rattle.turn.specs.declared.outcomes.Change.{Change}
 use Rattle.turn.specs.declared.outcomes.Change.TheVariants as change
 use Rattle.operators.specs.declared.states.State.{State}
@@ -54,7 +54,7 @@ usable (Groups s) side = is_left side
 usable (Root s) side = is_left side
 
 -- THE EXCERPT
-abbrev pub near_of : State → Side → Item → Near
+abbrev pub near_of : State → Side → Item → Excerpt
 near_of (Range s) side i = near.Leaving (range.near s i)
 near_of (Slide s) side i = near.Sliding (slide.near s i)
 near_of (Latest s) side i = near.Fallen (latest.near s i)
@@ -74,7 +74,7 @@ HasColumns (Groups s) side i = Unit {0}
 HasColumns (Root s) side i = Unit {0}
 
 -- the excerpt has the kind and the columns that a turn of the state's operator asks for
-abbrev pub FitsState : State → Item → Near → Type 0
+abbrev pub FitsState : State → Item → Excerpt → Type 0
 FitsState (Range s) i n = FitsRange n
 FitsState (Slide s) i n = FitsSlide n
 FitsState (Latest s) i n = FitsLatest i n

@@ -4,18 +4,17 @@ ghost use Rattle.op_queue.specs.Entries.{IsForward};
 ghost use Rattle.op_queue.specs.Queues.{HasGained};
 ghost use Rattle.to_stream.specs.Turns as roots;
 ghost use Rattle.turn.specs.Turns.{FitsRange, FitsLatest, FitsSlide};
-ghost use Rattle.turn.specs.declared.excerpts.Near.TheVariants as nears;
+ghost use Rattle.turn.specs.declared.excerpts.Excerpt.TheVariants as nears;
 ghost use Rattle.operators.specs.InPlace.{HasQueued, HaveCome, IsAfterItem, MayAnswer};
 ghost use Rattle.operators.specs.InPlace.{MayComeAll, MayQueue, MayTake, MayTakeRange};
-ghost use Rattle.operators.specs.InPlace.{MayTakeRows, after_answers, answers_from, outs_from};
-ghost use Rattle.operators.specs.InPlace.{row_outs};
+ghost use Rattle.operators.specs.InPlace.{after_answers, answers_from, outs_from};
 ghost use Rattle.operators.specs.States.{FitsState, LatestAfter, TakesSlide, near_of, range_after};
 ghost use Rattle.windows.specs.Latest as latest;
 ghost use Rattle.windows.specs.Range as ranges;
 ghost use Rattle.windows.specs.Slide as slides;
 ghost use Rattle.windows.specs.Widths.{IsItemWide};
 
-use crate::inboxes::Inbox;
+use crate::inboxes::{Inbox, with_queue};
 use crate::states::State;
 use column::Side;
 use op_queue::{Item, Queue};
@@ -46,10 +45,7 @@ impl State {
             (HaveCome (outs_from kind.now self.old side item) inbox.old inbox.new) }
         ensures fits { FitsState self.old item (near_of self.old side item) }
     {
-        match inbox {
-            Inbox::First(_) => unreachable!(),
-            Inbox::Between(queue) => self.run(alloc, kind, side, item, queue),
-        }
+        with_queue!(inbox, queue => self.run(alloc, kind, side, item, queue))
     }
 
     /// Does the same with the queue of the inbox.
@@ -68,14 +64,19 @@ impl State {
             (HasQueued (outs_from kind.now self.old side item) queue.old queue.new) }
         ensures fits { FitsState self.old item (near_of self.old side item) }
     {
-        match self {
-            State::Range(window) => run_range(alloc, window, item, queue),
-            State::Slide(window) => run_slide(alloc, window, item, queue),
-            State::Latest(window) => run_latest(alloc, window, item, queue),
-            State::Nothing => run_rows(alloc, kind, item, queue),
-            State::Join(join) => join.run(alloc, side, item, queue),
-            State::Groups(groups) => groups.run(alloc, item, queue),
-            State::Root(_) => unreachable!(),
+        match (self, kind) {
+            (State::Range(window), _) => run_range(alloc, window, item, queue),
+            (State::Slide(window), _) => run_slide(alloc, window, item, queue),
+            (State::Latest(window), _) => run_latest(alloc, window, item, queue),
+            (State::Nothing, Kind::Select(steps)) => {
+                run_select(alloc, &steps.steps, item, queue)
+            }
+            (State::Nothing, Kind::Project(columns)) => {
+                run_project(alloc, columns.columns(), item, queue)
+            }
+            (State::Join(join), _) => join.run(alloc, side, item, queue),
+            (State::Groups(groups), _) => groups.run(alloc, item, queue),
+            (State::Nothing | State::Root(_), _) => unreachable!(),
         }
     }
 
@@ -157,17 +158,4 @@ fn run_latest(
     ensures fits { FitsLatest item (nears.Fallen (latest.near window.old item)) }
 {
     window.run(alloc, item, queue)
-}
-
-/// Runs Select or Project, which have no state.
-fn run_rows(alloc: Global, kind: &Kind, item: Item, queue: &mut Queue) -> Result<(), AllocError>
-    requires may { MayTakeRows kind.now item }
-    requires forward { IsForward (queue.old.entries ++ row_outs kind.now item) }
-    ensures { OnOk result (HasGained (row_outs kind.now item) queue.old queue.new) }
-{
-    match kind {
-        Kind::Select(steps) => run_select(alloc, &steps.steps, item, queue),
-        Kind::Project(columns) => run_project(alloc, columns.columns(), item, queue),
-        _ => unreachable!(),
-    }
 }

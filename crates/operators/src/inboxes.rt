@@ -11,6 +11,18 @@ ghost use Rattle.operators.specs.Passing.{AreGone, MayLeave};
 use op_queue::{Cursor, Front, Item, Log, Queue};
 use std::alloc::{AllocError, Global};
 
+/// Is the expression with `queue` bound to the queue of an inbox that an operator below fills.
+macro_rules! with_queue {
+    ($inbox:expr, $queue:ident => $body:expr) => {
+        match $inbox {
+            Inbox::First(_) => unreachable!(),
+            Inbox::Between($queue) => $body,
+        }
+    };
+}
+
+pub(crate) use with_queue;
+
 /// Holds what waits for an operator at one of its sides.
 ///
 /// Each call borrows the log of a stream. An input that reads a stream needs that stream's log. A
@@ -137,10 +149,7 @@ impl Inbox {
             ≡ begins_in self.old ++ all_begins items.items) }
         ensures same { OnOk result (is_fed self.new ≡ is_fed self.old) }
     {
-        match self {
-            Inbox::First(_) => unreachable!(),
-            Inbox::Between(queue) => push_all(queue, items),
-        }
+        with_queue!(self, queue => push_all(queue, items))
     }
 
     /// Returns how many rows and ticks wait. Over a stream it costs the rows that wait, else

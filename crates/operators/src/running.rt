@@ -26,7 +26,7 @@ use row_bags::DatedRows;
 use std::alloc::{AllocError, Global};
 use std::marker::Model;
 use std::sync::Arc;
-use turn::{Change, Kind, Near};
+use turn::{Change, Excerpt, Kind};
 
 /// Is an operator of a running query: what it does, what it holds, and what waits for it.
 ///
@@ -140,7 +140,7 @@ impl Operator {
     ///
     /// # Errors
     /// `AllocError` when out of memory; nothing has changed.
-    pub fn near(&self, alloc: Global, side: Side, item: &Item) -> Result<Near, AllocError>
+    pub fn near(&self, alloc: Global, side: Side, item: &Item) -> Result<Excerpt, AllocError>
         requires belongs { Belongs self.now.kind self.now.state }
         requires columns { HasColumns self.now.state side item.now }
         requires named { HasNamedColumns self.now.kind item.now }

@@ -1,7 +1,7 @@
 -- The steps of conditions joined by And.
 use Rattle.std.proofs.Common.{refl, ◌≡◌, ◌∙◌, List, [], ◌∷◌, ◌++◌, ap, sym, ℕ}
 use Rattle.std.proofs.lemmas.List.{append_assoc, append-nil}
-use Rattle.values.specs.Condition.{Column, Condition, Compared, Not, And, Or, Operand, Field, Number}
+use Rattle.values.specs.Condition.{SourceColumn, Condition, Compared, Not, And, Or, Operand, Field, Number}
 use Rattle.plan.specs.Build.{alone, moved, operand_moved, placed}
 use Rattle.lane_kernels.specs.declared.condition.Step.{Step}
 use Rattle.lane_kernels.specs.declared.condition.Step.TheVariants as step
@@ -20,11 +20,11 @@ pub steps_all : (c : Condition) (cs : List Condition) (all more : List Step) →
 steps_all c cs all more e f = f ∙ ap (λ (xs : List Step). xs ++ further_steps cs) e ∙ steps_joined c cs
 
 -- ---- conditions whose columns are moved to the one row that goes between operators
-operand_of_one : (f : Column → Column) → ((c : Column) → (f c).source ≡ 0) → (a : Operand) → OperandIsOfOne (operand_moved f a)
+operand_of_one : (f : SourceColumn → SourceColumn) → ((c : SourceColumn) → (f c).source ≡ 0) → (a : Operand) → OperandIsOfOne (operand_moved f a)
 operand_of_one f h (Field c) = h c
 operand_of_one f h (Number z) = tt
 
-moved_of_one : (f : Column → Column) → ((c : Column) → (f c).source ≡ 0) → (c : Condition) → IsOfOneSource (moved f c)
+moved_of_one : (f : SourceColumn → SourceColumn) → ((c : SourceColumn) → (f c).source ≡ 0) → (c : Condition) → IsOfOneSource (moved f c)
 moved_of_one f h (Compared a how b) = (operand_of_one f h a, operand_of_one f h b)
 moved_of_one f h (Not c) = moved_of_one f h c
 moved_of_one f h (And c d) = (moved_of_one f h c, moved_of_one f h d)

@@ -2,7 +2,7 @@
 use Rattle.std.proofs.Common.{◌≡◌, ◌∙◌, ◌+◌, ◌≤◌, ℕ, Bool, true, false, ◌&&◌, Some, List, [], ◌∷◌, ◌++◌, map, filter, cond, refl, ap, ap₂, arith}
 use Rattle.std.specs.List.{AllByRecursion, flat_map}
 use Rattle.values.specs.Row.{Row, value_at}
-use Rattle.values.specs.Condition.{Condition, And, Column, field, keeps}
+use Rattle.values.specs.Condition.{Condition, And, SourceColumn, field, keeps}
 use Rattle.values.specs.Relation.{Grouped, Listed, shaped}
 use Rattle.values.specs.Resolved.{columns_of, items_of}
 use Rattle.values.specs.declared.resolved.ListItem.{ListItem}
@@ -67,10 +67,10 @@ projects places (r ∷ rows) = ap₂ (λ (x : Row) (xs : List Row). x ∷ xs) (c
 
 by_same : (by : List ℕ) → columns_of (map column_at by) ≡ columns_at by
 by_same [] = refl
-by_same (k ∷ by) = ap (λ (cs : List Column). at k ∷ cs) (by_same by)
+by_same (k ∷ by) = ap (λ (cs : List SourceColumn). at k ∷ cs) (by_same by)
 
 groups : (by : List ℕ) (items : List ListItem) (rows : List Row) → grouped (grouping by items) rows ≡ nodes.shaped_rows (Grouped (columns_at by) (items_of items)) rows
-groups by items rows = ap (λ (cs : List Column). shaped (Grouped cs (items_of items)) (map (λ r. r ∷ []) rows)) (by_same by)
+groups by items rows = ap (λ (cs : List SourceColumn). shaped (Grouped cs (items_of items)) (map (λ r. r ∷ []) rows)) (by_same by)
 
 -- ---- Join
 fits_same : (keys : List Key) (l r : Row) → pairs.fits (map key_pair keys) l r ≡ nodes.fits (keys_of keys) l r

@@ -15,7 +15,7 @@ use group::GroupBy;
 use plan::Node;
 use std::alloc::{AllocError, Global};
 use turn::{ColumnList, Kind, StepList};
-use values::{Column, Condition, ListItem, MAX_COLUMNS, Window};
+use values::{Condition, ListItem, MAX_COLUMNS, SourceColumn, Window};
 
 /// Makes what an operator does. It reads the sources' windows, and how many columns each operator's
 /// rows have.
@@ -43,9 +43,11 @@ fn window_kind(windows: &[Window], source: usize) -> Kind
     ensures { result ≡ window_kind (window_at windows.now source) }
 {
     match windows.get(source) {
+        Some(Window::Range(_)) => Kind::RangeWindow,
         Some(Window::RangeSlide(_, _)) => Kind::SlideWindow,
+        Some(Window::Unbounded) => Kind::RangeWindow,
         Some(Window::LastRows(_, _)) => Kind::LatestWindow,
-        _ => Kind::RangeWindow,
+        None => Kind::RangeWindow,
     }
 }
 
@@ -81,12 +83,12 @@ pub(crate) fn grouping(
     Ok(GroupBy::new(columns, items))
 }
 
-fn columns_at(alloc: Global, places: &[usize]) -> Result<Vec<Column>, AllocError>
+fn columns_at(alloc: Global, places: &[usize]) -> Result<Vec<SourceColumn>, AllocError>
     ensures { IfOk result (λ columns. columns.items ≡ map column_at places.now) }
 {
     let mut columns = Vec::new(alloc);
     for place in places {
-        columns.push(Column {
+        columns.push(SourceColumn {
             source: 0,
             column: *place,
         })?;

@@ -4,7 +4,7 @@ use Rattle.std.specs.List.{list_any, range_with_len}
 use Rattle.std.specs.Option.{option_map}
 use Rattle.std.proofs.lemmas.List.{length-map, map-append}
 use Rattle.std.proofs.Math.Seq.{get_or-append_seam}
-use Rattle.values.specs.Condition.{Column}
+use Rattle.values.specs.Condition.{SourceColumn}
 use Rattle.cql_reader.specs.Query as syntax
 use Rattle.names.specs.Split.{columns_of, columns_of_operand}
 use Rattle.std.specs.Str.{bytes_eq}
@@ -65,7 +65,7 @@ matches-scope pre (t ∷ ts) s e r =
     rw (← append_assoc pre (length t.columns ∷ []) (widths_of ts)) (matches-scope (pre ++ length t.columns ∷ []) ts (suc s) (omega (arith, e, length-append pre (length t.columns ∷ []))) r) in
     each-append (InScope vs) (matches_in s r t) (matches (suc s) ts r) (matches_here pre t (widths_of ts) s e r) rest
 
-first_in : (P : Column → Type 0) (cs : List Column) → AllByRecursion P cs → is_missing cs ≡ false → P (first_column cs)
+first_in : (P : SourceColumn → Type 0) (cs : List SourceColumn) → AllByRecursion P cs → is_missing cs ≡ false → P (first_column cs)
 first_in P [] h n = cc
 first_in P (c ∷ cs) h n = h.0
 
@@ -77,14 +77,14 @@ module _ (ts : List Table) where
   named : (r : syntax.Reference) → is_missing (matches 0 ts r) ≡ false → Names r
   named r n = first_in (InScope (widths_of ts)) (matches 0 ts r) (matches-scope [] ts 0 refl r) n
 
-  operand-columns : (a : syntax.Operand) → columns_of_operand (operand_of ts a) ≡ map (column_of ts) (references_of_operand a)
+  operand-columns : (a : syntax.WrittenOperand) → columns_of_operand (operand_of ts a) ≡ map (column_of ts) (references_of_operand a)
   operand-columns (syntax.Named r) = refl
   operand-columns (syntax.Number z) = refl
 
-  both-columns : (xs ys : List Column) (rs ss : List syntax.Reference) → xs ≡ map (column_of ts) rs → ys ≡ map (column_of ts) ss → xs ++ ys ≡ map (column_of ts) (rs ++ ss)
+  both-columns : (xs ys : List SourceColumn) (rs ss : List syntax.Reference) → xs ≡ map (column_of ts) rs → ys ≡ map (column_of ts) ss → xs ++ ys ≡ map (column_of ts) (rs ++ ss)
   both-columns xs ys rs ss e f = ap (λ v. v ++ ys) e ∙ ap (λ v. map (column_of ts) rs ++ v) f ∙ sym (map-append (column_of ts) rs ss)
 
-  condition-columns : (c : syntax.Condition) → columns_of (condition_of ts c) ≡ map (column_of ts) (references_of_condition c)
+  condition-columns : (c : syntax.WrittenCondition) → columns_of (condition_of ts c) ≡ map (column_of ts) (references_of_condition c)
   condition-columns (syntax.Compared a how b) =
       both-columns (columns_of_operand (operand_of ts a)) (columns_of_operand (operand_of ts b)) (references_of_operand a) (references_of_operand b) (operand-columns a) (operand-columns b)
   condition-columns (syntax.Not c) = condition-columns c
@@ -96,19 +96,16 @@ module _ (ts : List Table) where
   columns-named : (rs : List syntax.Reference) → AllByRecursion Names rs → AllByRecursion (InScope (widths_of ts)) (map (column_of ts) rs)
   columns-named rs h = each-map (InScope (widths_of ts)) (column_of ts) rs h
 
-  condition-scope : (o : Option syntax.Condition) → AllByRecursion Names (references_of_where o) → ConditionInScope (widths_of ts) (option_map (condition_of ts) o)
+  condition-scope : (o : Option syntax.WrittenCondition) → AllByRecursion Names (references_of_where o) → ConditionInScope (widths_of ts) (option_map (condition_of ts) o)
   condition-scope None h = tt
   condition-scope (Some c) h = rw (condition-columns c) (columns-named (references_of_condition c) h)
 
-  item-scope : (by : List Column) (e : syntax.Entry) → AllByRecursion Names (named_by e) → ItemInScope (widths_of ts) (item_of ts by e)
+  item-scope : (by : List SourceColumn) (e : syntax.WrittenEntry) → AllByRecursion Names (named_by e) → ItemInScope (widths_of ts) (item_of ts by e)
   item-scope by (syntax.Column r) h = tt
   item-scope by syntax.CountAll h = tt
-  item-scope by (syntax.Count r) h = h.0
-  item-scope by (syntax.Sum r) h = h.0
-  item-scope by (syntax.Min r) h = h.0
-  item-scope by (syntax.Max r) h = h.0
+  item-scope by (syntax.Of a r) h = h.0
 
-  items-scope : (by : List Column) (es : List syntax.Entry) → AllByRecursion Names (flat_map named_by es) → AllByRecursion (ItemInScope (widths_of ts)) (map (item_of ts by) es)
+  items-scope : (by : List SourceColumn) (es : List syntax.WrittenEntry) → AllByRecursion Names (flat_map named_by es) → AllByRecursion (ItemInScope (widths_of ts)) (map (item_of ts by) es)
   items-scope by [] h = tt
   items-scope by (e ∷ es) h =
       (item-scope by e (each-left Names (named_by e) (flat_map named_by es) h), items-scope by es (each-right Names (named_by e) (flat_map named_by es) h))
@@ -142,7 +139,7 @@ shape-scope ts q h g =
 pub accepted-scoped : (q : syntax.Query) (catalog : List Stream) → first_fault q catalog ≡ None → Scoped (widths q catalog) (resolved q catalog)
 accepted-scoped q catalog h =
     let ts : List Table = tables catalog q.sources in
-    let partitions : List (List Column) = partition_matches q catalog in
+    let partitions : List (List SourceColumn) = partition_matches q catalog in
     let rs : List syntax.Reference = flat_map named_by (entry_list q.entries) in
     let ss : List syntax.Reference = references_of_where q.condition in
     let all_found : AllByRecursion (λ cs. is_missing cs ≡ false) (all_matches q catalog) =

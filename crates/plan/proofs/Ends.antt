@@ -2,7 +2,7 @@
 use Rattle.std.proofs.Common.{◌≡◌, ℕ, suc, ◌<◌, Bool, true, false, cond, List, [], ◌∷◌, ◌++◌, length, get_or, refl, sym, ap, ◌∙◌, arith, length-append}
 use Rattle.values.specs.Row.{Row, row_cmp}
 use Rattle.values.specs.Bag.{distinct}
-use Rattle.values.specs.Condition.{Column, Condition}
+use Rattle.values.specs.Condition.{SourceColumn, Condition}
 use Rattle.values.specs.Relation.{Shape, Listed, Grouped}
 use Rattle.values.specs.Answers.{StreamOperator}
 use Rattle.plan.specs.Nodes.{Key, Node, selected, shaped_rows, node_value, values_of, last_of, plan_value}
@@ -42,13 +42,13 @@ ends-value ws done false shape op n e =
     let x : List Row = node_value ws done shape in
     last-push (done ++ x ∷ []) (get_or (done ++ x ∷ []) n []) ∙ at_end done x n e
 
-shape-value : (ws done : List (List Row)) (f : Column → Column) (top : ℕ) (shape : Shape)
+shape-value : (ws done : List (List Row)) (f : SourceColumn → SourceColumn) (top : ℕ) (shape : Shape)
     → node_value ws done (shape_node f top shape) ≡ shaped_rows (shape_moved f shape) (get_or done top [])
 shape-value ws done f top (Listed columns) = refl
 shape-value ws done f top (Grouped by items) = refl
 
 -- the value of the nodes by what they are made of
-pub nodes-value : (ws : List (List Row)) (own : List (List Condition)) (keys : List (List Key)) (rest : List Condition) (b : Bool) (f : Column → Column) (shape : Shape) (op : StreamOperator)
+pub nodes-value : (ws : List (List Row)) (own : List (List Condition)) (keys : List (List Key)) (rest : List Condition) (b : Bool) (f : SourceColumn → SourceColumn) (shape : Shape) (op : StreamOperator)
     → 0 < length (tops 0 own)
     → plan_value (nodes_over own keys rest b (λ top. shape_node f top shape) op) ws
     ≡ once b (shaped_rows (shape_moved f shape) (selected rest (join_tables (chosen_from ws 0 own) keys)))

@@ -2,7 +2,7 @@
 use Rattle.std.proofs.Common.{◌≡◌, ℕ, suc, ◌+◌, ◌-◌, ◌<◌, ◌≤◌, ◌==◌, ◌||◌, Bool, true, false, cond, List, [], ◌∷◌, ◌++◌, length, refl, sym, ap, ◌∙◌, arith, length-append}
 use Rattle.std.specs.List.{AllByRecursion}
 use Rattle.std.proofs.lemmas.Bool.{eqb-false, ne_eqb}
-use Rattle.values.specs.Condition.{Column, Condition}
+use Rattle.values.specs.Condition.{SourceColumn, Condition}
 use Rattle.values.specs.Relation.{Shape, Listed, Grouped}
 use Rattle.values.specs.Answers.{StreamOperator}
 use Rattle.plan.specs.Nodes.{Key, Node}
@@ -118,7 +118,7 @@ rest-leads : (m top : ℕ) (cs : List Condition) → reached top m (rest_nodes t
 rest-leads m top [] = refl
 rest-leads m top (c ∷ cs) = let f : (top == top) ≡ true = equal_self top in rw f refl
 
-end-leads : (b : Bool) (f : Column → Column) (shape : Shape) (op : StreamOperator) (k last : ℕ)
+end-leads : (b : Bool) (f : SourceColumn → SourceColumn) (shape : Shape) (op : StreamOperator) (k last : ℕ)
     → reached last k (end_nodes b (shape_node f last shape) op k) ≡ k + (length (end_nodes b (shape_node f last shape) op k) - 1)
 end-leads true f (Listed columns) op k last =
     let e : (last == last) ≡ true = equal_self last in let g : (k == k) ≡ true = equal_self k in let h : (suc k == suc k) ≡ true = equal_self (suc k) in
@@ -146,7 +146,7 @@ no_window_in_rest : (top : ℕ) (cs : List Condition) → AllByRecursion (λ y. 
 no_window_in_rest top [] = tt
 no_window_in_rest top (c ∷ cs) = (refl, tt)
 
-no_window_in_end : (b : Bool) (f : Column → Column) (top : ℕ) (shape : Shape) (op : StreamOperator) (k : ℕ) → AllByRecursion (λ y. is_window y ≡ false) (end_nodes b (shape_node f top shape) op k)
+no_window_in_end : (b : Bool) (f : SourceColumn → SourceColumn) (top : ℕ) (shape : Shape) (op : StreamOperator) (k : ℕ) → AllByRecursion (λ y. is_window y ≡ false) (end_nodes b (shape_node f top shape) op k)
 no_window_in_end true f top (Listed columns) op k = (refl, (refl, (refl, tt)))
 no_window_in_end true f top (Grouped by items) op k = (refl, (refl, (refl, tt)))
 no_window_in_end false f top (Listed columns) op k = (refl, (refl, tt))
@@ -157,7 +157,7 @@ end-length true shape op k = (omega arith, omega arith)
 end-length false shape op k = (omega arith, omega arith)
 
 -- EACH WINDOW'S PATH LEADS TO THE ROOT
-pub nodes-lead : (own : List (List Condition)) (keys : List (List Key)) (rest : List Condition) (b : Bool) (f : Column → Column) (shape : Shape) (op : StreamOperator)
+pub nodes-lead : (own : List (List Condition)) (keys : List (List Key)) (rest : List Condition) (b : Bool) (f : SourceColumn → SourceColumn) (shape : Shape) (op : StreamOperator)
     → length keys ≡ length (tops 0 own) - 1
     → AllByRecursion (λ w. reached w 0 (nodes_over own keys rest b (λ top. shape_node f top shape) op) ≡ length (nodes_over own keys rest b (λ top. shape_node f top shape) op) - 1)
     (windows 0 (nodes_over own keys rest b (λ top. shape_node f top shape) op))

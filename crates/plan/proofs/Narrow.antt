@@ -3,15 +3,15 @@ use Rattle.std.proofs.Common.{◌≡◌, ℕ, ◌+◌, ◌<◌, List, map, drop,
 use Rattle.std.proofs.lemmas.List.{drop_more}
 use Rattle.std.proofs.lemmas.List.Sums.{sum_by-cons}
 use Rattle.cql_reader.specs.Views.{name_of, sources_of}
-use Rattle.cql_reader.specs.declared.query.Source.{Source}
+use Rattle.cql_reader.specs.declared.query.WrittenSource.{WrittenSource}
 use Rattle.names.specs.Catalog.{Stream, columns_in}
 use Rattle.names.specs.Matches.{tables}
 
 -- how many columns each of these sources has
-abbrev pub widths_of : List Stream → List Source → List ℕ
+abbrev pub widths_of : List Stream → List WrittenSource → List ℕ
 widths_of catalog sources = map (λ t. length t.columns) (tables catalog (sources_of sources))
 
-pub narrow_more : (catalog : List Stream) (sources : List Source) (i : ℕ) (d : Source) → i < length sources
+pub narrow_more : (catalog : List Stream) (sources : List WrittenSource) (i : ℕ) (d : WrittenSource) → i < length sources
     → sum (widths_of catalog (drop i sources)) ≡ length (columns_in catalog (name_of (get_or sources i d).stream)) + sum (widths_of catalog (drop (i + 1) sources))
 narrow_more catalog sources i d l =
     ap (λ xs. sum (widths_of catalog xs)) (drop_more sources i d l)

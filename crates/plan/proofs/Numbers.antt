@@ -2,7 +2,7 @@
 use Rattle.std.proofs.Common.{◌≡◌, ℕ, zero, suc, ◌+◌, ◌<◌, ◌≤◌, Bool, true, false, List, [], ◌∷◌, ◌++◌, length, get_or, refl, sym, ap, ◌∙◌, arith, length-append}
 use Rattle.values.specs.Row.{Row, row_cmp}
 use Rattle.values.specs.Bag.{distinct}
-use Rattle.values.specs.Condition.{Column, Condition}
+use Rattle.values.specs.Condition.{SourceColumn, Condition}
 use Rattle.values.specs.Relation.{Shape, Listed, Grouped}
 use Rattle.values.specs.Answers.{StreamOperator}
 use Rattle.plan.specs.Nodes.{Key, Node, Window, Select, Join, Project, Group, Distinct, ToStream, selected, joined, shaped_rows, node_value, values_of}
@@ -88,7 +88,7 @@ rest-below : (n top : ℕ) (cs : List Condition) (m : ℕ) → top < n → n + l
 rest-below n top [] m l h = omega (arith, l, h)
 rest-below n top (c ∷ cs) m l h = omega (arith, h)
 
-shape-below : (f : Column → Column) (n top : ℕ) (shape : Shape) → top < n → Below n (shape_node f top shape)
+shape-below : (f : SourceColumn → SourceColumn) (n top : ℕ) (shape : Shape) → top < n → Below n (shape_node f top shape)
 shape-below f n top (Listed columns) l = l
 shape-below f n top (Grouped by items) l = l
 
@@ -96,7 +96,7 @@ ends-rise : (b : Bool) (shape : Node) (op : StreamOperator) (n : ℕ) → Below 
 ends-rise true shape op n l = (l, (omega arith, (omega arith, tt)))
 ends-rise false shape op n l = (l, (omega arith, tt))
 
-pub nodes-rise : (own : List (List Condition)) (keys : List (List Key)) (rest : List Condition) (b : Bool) (f : Column → Column) (shape : Shape) (op : StreamOperator)
+pub nodes-rise : (own : List (List Condition)) (keys : List (List Key)) (rest : List Condition) (b : Bool) (f : SourceColumn → SourceColumn) (shape : Shape) (op : StreamOperator)
     → 0 < length (tops 0 own) → Rises 0 (nodes_over own keys rest b (λ top. shape_node f top shape) op)
 nodes-rise own keys rest b f shape op some =
     let sources : List Node = source_nodes 0 0 own in

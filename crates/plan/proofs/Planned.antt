@@ -15,7 +15,7 @@ use Rattle.names.specs.Resolved.{resolved, widths}
 use Rattle.names.specs.Split.{JoinKey, all_conjuncts, own_of, join_keys_of, remaining}
 use Rattle.names.specs.Faults as names
 use Rattle.names.specs.Views as views
-use Rattle.names.specs.declared.split.Key.{Key}
+use Rattle.names.specs.declared.split.SourceKey.{SourceKey}
 use Rattle.plan.specs.Build.{placed, moved, all_alone, key_placed, shape_node, nodes_over, plan_of}
 use Rattle.plan.specs.Chart.{is_bad_chart}
 use Rattle.plan.specs.Faults.{after_names, first_fault}
@@ -31,7 +31,7 @@ module _ (q : syntax.Query) (catalog : List Stream) (accepted : names.first_faul
   scoped : Scoped (widths q catalog) (resolved q catalog)
   scoped = accepted-scoped q catalog accepted
 
-  pub keys_ready : (n : ℕ) (vs : List ℕ) (keys lent : List (Vec Key Global)) → vs ≡ widths q catalog
+  pub keys_ready : (n : ℕ) (vs : List ℕ) (keys lent : List (Vec SourceKey Global)) → vs ≡ widths q catalog
       → views.join_keys_of keys ≡ join_keys_of n (all_conjuncts (resolved q catalog).condition) → lent ≡ keys
       → AllByRecursion (λ ks. AllByRecursion (λ k. InScope vs (column_of k.earlier)) ks.items) lent
   keys_ready n vs keys lent e k l = rw (e, l) (keys_scope (widths q catalog) n (resolved q catalog).condition keys scoped.condition k)

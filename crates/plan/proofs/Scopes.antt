@@ -8,7 +8,7 @@ use Rattle.values.specs.Resolved.{column_of, condition_of}
 use Rattle.values.specs.declared.resolved.Condition.{Condition}
 use Rattle.names.specs.Split.{JoinKey, all_conjuncts, columns_of, columns_of_operand, remains, remaining, join_keys_of}
 use Rattle.names.specs.Views as names
-use Rattle.names.specs.declared.split.Key.{Key}
+use Rattle.names.specs.declared.split.SourceKey.{SourceKey}
 use Rattle.plan.specs.Scope.{InScope, OperandInScope, ColumnsInScope, ConditionInScope}
 use Rattle.plan.proofs.Lists.{each-left, each-right, each-weaken, each-filter, each-unmap}
 use Rattle.plan.proofs.Joins.{KeyInScope, KeysInScope}
@@ -45,7 +45,7 @@ each_known vs s (ks ∷ each) h = (
   each_known vs (suc s) each h.1,
 )
 
-pub keys_scope : (vs : List ℕ) (n : ℕ) (o : Option spec.Condition) (keys : List (Vec Key Global)) → ConditionInScope vs o → names.join_keys_of keys ≡ join_keys_of n (all_conjuncts o)
+pub keys_scope : (vs : List ℕ) (n : ℕ) (o : Option spec.Condition) (keys : List (Vec SourceKey Global)) → ConditionInScope vs o → names.join_keys_of keys ≡ join_keys_of n (all_conjuncts o)
     → AllByRecursion (λ ks. AllByRecursion (λ k. InScope vs (column_of k.earlier)) ks.items) keys
 keys_scope vs n o keys h e =
     each-weaken (λ ks. AllByRecursion (λ k. InScope vs k.earlier) (names.keys_of ks.items)) (λ ks. AllByRecursion (λ k. InScope vs (column_of k.earlier)) ks.items)

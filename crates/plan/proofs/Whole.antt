@@ -4,8 +4,8 @@ use Rattle.std.specs.List.{list_all, range_with_len}
 use Rattle.std.proofs.lemmas.List.{length-map}
 use Rattle.std.proofs.lemmas.List.FromFn.{length-map-range_with_len}
 use Rattle.values.specs.Row.{Row}
-use Rattle.values.specs.Condition.{Column, Condition, field, keeps}
-use Rattle.values.specs.Relation.{Shape, Listed, Grouped, ListItem, Key, CountAll, Count, Sum, Min, Max, combinations, shaped}
+use Rattle.values.specs.Condition.{SourceColumn, Condition, field, keeps}
+use Rattle.values.specs.Relation.{Shape, Listed, Grouped, ListItem, Key, CountAll, Of, combinations, shaped}
 use Rattle.values.specs.Answers.{Resolved, body}
 use Rattle.names.specs.Split.{JoinKey, all_conjuncts, columns_of, own, keys, remains, remaining, own_of, join_keys, join_keys_of}
 use Rattle.plan.specs.Nodes.{holds_all, selected, shaped_rows, plan_value}
@@ -43,7 +43,7 @@ abbrev as_row : List Row → List Row
 as_row rows = flat rows ∷ []
 
 module _ (vs : List ℕ) where
-  agree : (rows : List Row) (k : Column) → Fit vs rows → InScope vs k → field rows k ≡ field (as_row rows) (placed vs k)
+  agree : (rows : List Row) (k : SourceColumn) → Fit vs rows → InScope vs k → field rows k ≡ field (as_row rows) (placed vs k)
   agree rows k fit h =
       let e : map length rows ++ [] ≡ vs = append-nil (map length rows) ∙ fit in
       let many : length rows ≡ length vs = sym (length-map rows length) ∙ ap length fit in
@@ -53,10 +53,7 @@ module _ (vs : List ℕ) where
   items_in [] h = tt
   items_in (Key k ∷ is) h = (tt, items_in is h.1)
   items_in (CountAll ∷ is) h = (tt, items_in is h.1)
-  items_in (Count c ∷ is) h = (h.0, items_in is h.1)
-  items_in (Sum c ∷ is) h = (h.0, items_in is h.1)
-  items_in (Min c ∷ is) h = (h.0, items_in is h.1)
-  items_in (Max c ∷ is) h = (h.0, items_in is h.1)
+  items_in (Of a c ∷ is) h = (h.0, items_in is h.1)
 
   shape_in : (shape : Shape) → ShapeInScope vs shape → ShapeIn (placed vs) as_row (Fit vs) (InScope vs) agree shape
   shape_in (Listed columns) h = h

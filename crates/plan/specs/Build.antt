@@ -1,9 +1,10 @@
 -- The plan of a query.
 use Rattle.std.specs.Prelude.{ℕ, zero, suc, ◌+◌, Bool, true, false, List, [], ◌∷◌, ◌++◌, map}
 use Rattle.std.specs.Prelude.{length}
-use Rattle.values.specs.Condition.{Column, Operand, Field, Number, Condition, Compared, Not, And}
+use Rattle.values.specs.Condition.{SourceColumn, Operand, Field, Number, Condition, Compared, Not}
+use Rattle.values.specs.Condition.{And}
 use Rattle.values.specs.Condition.{Or}
-use Rattle.values.specs.Relation.{Shape, Listed, Grouped, ListItem, CountAll, Count, Sum, Min, Max}
+use Rattle.values.specs.Relation.{Shape, Listed, Grouped, ListItem, CountAll, Of}
 use Rattle.values.specs.Answers.{Resolved, StreamOperator}
 use Rattle.names.specs.Split.{all_conjuncts, JoinKey, own_of, join_keys_of, remaining}
 use Rattle.plan.specs.Nodes.{Key, Node, Window, Select, Join, Project, Group, Distinct, ToStream}
@@ -15,35 +16,32 @@ offset (v ∷ vs) zero k = k
 offset (v ∷ vs) (suc s) k = v + offset vs s k
 
 -- a place in a row
-abbrev pub at : ℕ → Column
+abbrev pub at : ℕ → SourceColumn
 at k = record { source = 0; column = k }
 
 -- a column as a place in the joined row
-abbrev pub placed : List ℕ → Column → Column
+abbrev pub placed : List ℕ → SourceColumn → SourceColumn
 placed vs c = at (offset vs c.source c.column)
 
 -- a column as a place in the row of its own source
-abbrev pub alone : Column → Column
+abbrev pub alone : SourceColumn → SourceColumn
 alone c = at c.column
 
 -- the condition with its columns moved
-abbrev pub operand_moved : (Column → Column) → Operand → Operand
+abbrev pub operand_moved : (SourceColumn → SourceColumn) → Operand → Operand
 operand_moved f (Field c) = Field (f c)
 operand_moved f (Number z) = Number z
 
-abbrev pub moved : (Column → Column) → Condition → Condition
+abbrev pub moved : (SourceColumn → SourceColumn) → Condition → Condition
 moved f (Compared a how b) = Compared (operand_moved f a) how (operand_moved f b)
 moved f (Not c) = Not (moved f c)
 moved f (And c d) = And (moved f c) (moved f d)
 moved f (Or c d) = Or (moved f c) (moved f d)
 
-abbrev pub item_moved : (Column → Column) → ListItem → ListItem
+abbrev pub item_moved : (SourceColumn → SourceColumn) → ListItem → ListItem
 item_moved f (Rattle.values.specs.Relation.Key k) = Rattle.values.specs.Relation.Key k
 item_moved f CountAll = CountAll
-item_moved f (Count c) = Count (f c)
-item_moved f (Sum c) = Sum (f c)
-item_moved f (Min c) = Min (f c)
-item_moved f (Max c) = Max (f c)
+item_moved f (Of a c) = Of a (f c)
 
 abbrev pub key_placed : List ℕ → JoinKey → Key
 key_placed vs k = record { left = offset vs k.earlier.source k.earlier.column; right = k.column }
@@ -95,7 +93,7 @@ abbrev pub rest_top : ℕ → ℕ → List Condition → ℕ
 rest_top n top [] = top
 rest_top n top (c ∷ cs) = n
 
-abbrev pub shape_node : (Column → Column) → ℕ → Shape → Node
+abbrev pub shape_node : (SourceColumn → SourceColumn) → ℕ → Shape → Node
 shape_node f top (Listed columns) = Project top (map f columns)
 shape_node f top (Grouped by items) = Group top (map f by) (map (item_moved f) items)
 

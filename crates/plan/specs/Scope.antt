@@ -2,15 +2,15 @@
 use Rattle.std.specs.Prelude.{◌≡◌, ℕ, ◌<◌, Option, Some, None, List, [], ◌∷◌, length, get_or}
 use Rattle.std.specs.List.{AllByRecursion}
 use Rattle.values.specs.Row.{Row}
-use Rattle.values.specs.Condition.{Column, Operand, Field, Number, Condition, Compared, Not, And}
+use Rattle.values.specs.Condition.{SourceColumn, Operand, Field, Number, Condition, Compared, Not}
+use Rattle.values.specs.Condition.{And}
 use Rattle.values.specs.Condition.{Or}
-use Rattle.values.specs.Relation.{Shape, Listed, Grouped, ListItem, Key, CountAll, Count, Sum, Min}
-use Rattle.values.specs.Relation.{Max}
+use Rattle.values.specs.Relation.{Shape, Listed, Grouped, ListItem, Key, CountAll, Of}
 use Rattle.values.specs.Answers.{Resolved}
 use Rattle.names.specs.Split.{columns_of}
 
 -- the column is one of sources so wide
-pub record InScope (vs : List ℕ) (c : Column) : Type 0 where
+pub record InScope (vs : List ℕ) (c : SourceColumn) : Type 0 where
   pub source : c.source < length vs
   pub column : c.column < get_or vs c.source 0
 
@@ -28,10 +28,7 @@ ColumnsInScope vs (Or c d) = ColumnsInScope vs c × ColumnsInScope vs d
 abbrev pub ItemInScope : List ℕ → ListItem → Type 0
 ItemInScope vs (Key k) = Unit {0}
 ItemInScope vs CountAll = Unit {0}
-ItemInScope vs (Count c) = InScope vs c
-ItemInScope vs (Sum c) = InScope vs c
-ItemInScope vs (Min c) = InScope vs c
-ItemInScope vs (Max c) = InScope vs c
+ItemInScope vs (Of a c) = InScope vs c
 
 abbrev pub ShapeInScope : List ℕ → Shape → Type 0
 ShapeInScope vs (Listed columns) = AllByRecursion (InScope vs) columns

@@ -17,7 +17,7 @@ abbrev pub keys_of : List Key → List nodes.Key
 keys_of ks = map key_of ks
 
 -- the columns at the places
-abbrev pub columns_at : List ℕ → List conditions.Column
+abbrev pub columns_at : List ℕ → List conditions.SourceColumn
 columns_at ks = map at ks
 
 abbrev pub node_of : Node → nodes.Node

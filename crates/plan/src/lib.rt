@@ -29,7 +29,7 @@ pub use chart::{Chart, MAX_COST, MAX_SIZE, Measure};
 pub use fault::{PlanError, PlanFault};
 pub use fits::fits_a_row;
 pub use laws::plans_are_right;
-pub use node::{Key, Kind, Node};
+pub use node::{Key, Node, NodeKind};
 pub use operators::Plan;
 pub use paths::slopes;
 pub use planner::plan;

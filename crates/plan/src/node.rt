@@ -42,7 +42,7 @@ pub enum Node {
 
 /// Says what an operator does. It is shown by its name, as `Window`.
 #[derive(Clone, Copy, Debug, PartialEq, Eq)]
-pub enum Kind {
+pub enum NodeKind {
     Window,
     Select,
     Join,
@@ -54,17 +54,17 @@ pub enum Kind {
 
 impl Node {
     /// Returns what the operator does.
-    pub fn kind(&self) -> Kind
+    pub fn kind(&self) -> NodeKind
         ensures { result ≡ kind_of (node_of self.now) }
     {
         match self {
-            Node::Window(_) => Kind::Window,
-            Node::Select(_, _) => Kind::Select,
-            Node::Join(_, _, _) => Kind::Join,
-            Node::Project(_, _) => Kind::Project,
-            Node::Group(_, _, _) => Kind::Group,
-            Node::Distinct(_) => Kind::Distinct,
-            Node::ToStream(_, _) => Kind::ToStream,
+            Node::Window(_) => NodeKind::Window,
+            Node::Select(_, _) => NodeKind::Select,
+            Node::Join(_, _, _) => NodeKind::Join,
+            Node::Project(_, _) => NodeKind::Project,
+            Node::Group(_, _, _) => NodeKind::Group,
+            Node::Distinct(_) => NodeKind::Distinct,
+            Node::ToStream(_, _) => NodeKind::ToStream,
         }
     }
 
@@ -91,18 +91,18 @@ impl Node {
     }
 }
 
-impl fmt::Display for Kind {
+impl fmt::Display for NodeKind {
     ghost output = { λ kind. Some (kind_name kind) };
 
     fn fmt<W: fmt::Write>(&self, f: &mut fmt::Formatter<W>) -> fmt::Result {
         match self {
-            Kind::Window => write!(f, "Window"),
-            Kind::Select => write!(f, "Select"),
-            Kind::Join => write!(f, "Join"),
-            Kind::Project => write!(f, "Project"),
-            Kind::Group => write!(f, "Group"),
-            Kind::Distinct => write!(f, "Distinct"),
-            Kind::ToStream => write!(f, "ToStream"),
+            NodeKind::Window => write!(f, "Window"),
+            NodeKind::Select => write!(f, "Select"),
+            NodeKind::Join => write!(f, "Join"),
+            NodeKind::Project => write!(f, "Project"),
+            NodeKind::Group => write!(f, "Group"),
+            NodeKind::Distinct => write!(f, "Distinct"),
+            NodeKind::ToStream => write!(f, "ToStream"),
         }
     }
 }

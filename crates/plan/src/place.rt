@@ -10,10 +10,10 @@ ghost use Rattle.plan.specs.Views.{columns_at, keys_of};
 
 use crate::node::Key;
 use std::alloc::{AllocError, Global};
-use values::{Column, Condition, ListItem, Operand};
+use values::{Condition, ListItem, Operand, SourceColumn};
 
 /// Returns the place of a column in the joined row of sources with these widths.
-pub fn offset(widths: &[usize], column: Column) -> usize
+pub fn offset(widths: &[usize], column: SourceColumn) -> usize
     requires room { sum widths.now < 2 ^ 64 }
     requires scope { InScope widths.now (column_of column) }
     ensures { result ≡ spec.offset widths.now column.source column.column }
@@ -26,10 +26,10 @@ pub fn offset(widths: &[usize], column: Column) -> usize
 }
 
 /// Returns the column at a place of a row.
-fn at(place: usize) -> Column
+fn at(place: usize) -> SourceColumn
     ensures { column_of result ≡ spec.at place }
 {
-    Column {
+    SourceColumn {
         source: 0,
         column: place,
     }
@@ -121,7 +121,11 @@ fn set_operand_place(operand: &mut Operand, widths: &[usize])
 }
 
 /// Returns the places of columns in the joined row.
-pub fn places(alloc: Global, columns: &[Column], widths: &[usize]) -> Result<Vec<usize>, AllocError>
+pub fn places(
+    alloc: Global,
+    columns: &[SourceColumn],
+    widths: &[usize],
+) -> Result<Vec<usize>, AllocError>
     requires room { sum widths.now < 2 ^ 64 }
     requires scope { AllByRecursion (λ c. InScope widths.now (column_of c)) columns.now }
     ensures { IfOk result (λ places. columns_at places.items
@@ -137,7 +141,7 @@ pub fn places(alloc: Global, columns: &[Column], widths: &[usize]) -> Result<Vec
 /// Returns the keys of a join, by places in the row of what is joined and in that of the source.
 pub fn placed_keys(
     alloc: Global,
-    keys: &[names::Key],
+    keys: &[names::SourceKey],
     widths: &[usize],
 ) -> Result<Vec<Key>, AllocError>
     requires room { sum widths.now < 2 ^ 64 }
@@ -181,9 +185,6 @@ fn placed_item(item: ListItem, widths: &[usize]) -> ListItem
     match item {
         ListItem::Key(place) => ListItem::Key(place),
         ListItem::CountAll => ListItem::CountAll,
-        ListItem::Count(column) => ListItem::Count(at(offset(widths, column))),
-        ListItem::Sum(column) => ListItem::Sum(at(offset(widths, column))),
-        ListItem::Min(column) => ListItem::Min(at(offset(widths, column))),
-        ListItem::Max(column) => ListItem::Max(at(offset(widths, column))),
+        ListItem::Of(aggregate, column) => ListItem::Of(aggregate, at(offset(widths, column))),
     }
 }

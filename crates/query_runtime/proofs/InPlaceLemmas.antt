@@ -8,8 +8,8 @@ use Rattle.op_queue.specs.Items.{IsFrontPart}
 use Rattle.op_queue.specs.Logs.{Closed}
 use Rattle.op_queue.specs.declared.item.Item.{Item}
 use Rattle.turn.specs.Turns.{Answered, Put, outs_at}
-use Rattle.turn.specs.declared.excerpts.Near.{Near}
-use Rattle.turn.specs.declared.excerpts.Near.TheVariants as near
+use Rattle.turn.specs.declared.excerpts.Excerpt.{Excerpt}
+use Rattle.turn.specs.declared.excerpts.Excerpt.TheVariants as near
 use Rattle.turn.specs.declared.kinds.Kind.{Kind}
 use Rattle.turn.specs.declared.kinds.Kind.TheVariants as kind
 use Rattle.operators.specs.Operators.{PlainOperator, waiting}
@@ -27,15 +27,15 @@ use Rattle.query_runtime.specs.Turns.{CanFeed, CanPut, HasAnswered, HasFed, HasP
 use Rattle.query_runtime.proofs.LeaseLemmas.{part_first, part_leased}
 
 -- BELOW THE ROOT a turn puts out rows and ticks, at the root it gives answers
-pub record PutsOut (k : Kind) (side : Side) (i : Item) (n : Near) : Type 0 where
+pub record PutsOut (k : Kind) (side : Side) (i : Item) (n : Excerpt) : Type 0 where
   pub outs : List (Entry Row)
   pub is : outs_at k side i n ≡ Put outs
 
-pub record GivesOut (k : Kind) (side : Side) (i : Item) (n : Near) : Type 0 where
+pub record GivesOut (k : Kind) (side : Side) (i : Item) (n : Excerpt) : Type 0 where
   pub rows : List (ℕ × Row)
   pub is : outs_at k side i n ≡ Answered rows
 
-puts_of : (k : Kind) (side : Side) (i : Item) (n : Near) → is_root k ≡ false → PutsOut k side i n
+puts_of : (k : Kind) (side : Side) (i : Item) (n : Excerpt) → is_root k ≡ false → PutsOut k side i n
 puts_of kind.RangeWindow side i near.Nothing h = record { outs = _; is = refl }
 puts_of kind.RangeWindow side i (near.Leaving rows) h = record { outs = _; is = refl }
 puts_of kind.RangeWindow side i (near.Sliding rows) h = record { outs = _; is = refl }
@@ -87,7 +87,7 @@ puts_of (kind.Group g) side i (near.Groups rows) h = record { outs = _; is = ref
 puts_of (kind.Group g) side i (near.Lists lists) h = record { outs = _; is = refl }
 puts_of kind.ToStream side i n h = absurd (cc)
 
-gives_of : (k : Kind) (side : Side) (i : Item) (n : Near) → is_root k ≡ true → GivesOut k side i n
+gives_of : (k : Kind) (side : Side) (i : Item) (n : Excerpt) → is_root k ≡ true → GivesOut k side i n
 gives_of kind.RangeWindow side i n h = absurd (cc)
 gives_of kind.SlideWindow side i n h = absurd (cc)
 gives_of kind.LatestWindow side i n h = absurd (cc)

@@ -6,7 +6,7 @@ use Rattle.op_queue.specs.Items.{IsFrontPart, entries_of}
 use Rattle.op_queue.specs.Logs.{Closed}
 use Rattle.op_queue.specs.declared.item.Item.{Item}
 use Rattle.turn.specs.Turns.{FitsKind}
-use Rattle.turn.specs.declared.excerpts.Near.{Near}
+use Rattle.turn.specs.declared.excerpts.Excerpt.{Excerpt}
 use Rattle.operators.specs.Inboxes.{cut_of}
 use Rattle.operators.specs.Operators.{PlainOperator, inbox_of, waiting}
 use Rattle.operators.specs.States.{near_of}
@@ -27,7 +27,7 @@ part_first rows n o log side i e can part = record {
 pub part_taken : (rows n : ℕ) (o : PlainOperator) (log : Closed) (side : Side) (i : Item) → n ≡ min rows 1024 → CanLease o log side rows → IsFrontPart n (waiting o log side) i → MayFinish o log side i
 part_taken rows n o log side i e can part = can.may i (part_first rows n o log side i e can part)
 
-pub part_leased : (rows n : ℕ) (o : PlainOperator) (log : Closed) (side : Side) (i : Item) (near : Near) → n ≡ min rows 1024 → CanLease o log side rows → IsFrontPart n (waiting o log side) i
+pub part_leased : (rows n : ℕ) (o : PlainOperator) (log : Closed) (side : Side) (i : Item) (near : Excerpt) → n ≡ min rows 1024 → CanLease o log side rows → IsFrontPart n (waiting o log side) i
     → entries_of i ≡ cut_of n (inbox_of o side) log → near ≡ near_of o.state side i → FitsKind o.kind side i near → IsLeased o log side rows i near
 part_leased rows n o log side i near e can part cut is fits = record {
   first = part_first rows n o log side i e can part;

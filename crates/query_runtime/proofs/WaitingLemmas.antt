@@ -1,5 +1,5 @@
 -- Answers that wait and are handed out.
-use Rattle.std.proofs.Common.{◌≡◌, ◌+◌, ◌<◌, ◌&&◌, ℕ, zero, suc, ℤ, Bool, true, false, pos, nat_lt, Option, List, [], ◌∷◌, ◌++◌, take, refl, sym, ap, ◌∙◌, arith, append_assoc}
+use Rattle.std.proofs.Common.{◌≡◌, ◌+◌, ◌<◌, ◌&&◌, ℕ, zero, suc, ℤ, Bool, true, false, pos, nat_lt, Option, List, [], ◌∷◌, ◌++◌, take, refl, sym, ap, ◌∙◌, arith, append-nil, append_assoc}
 use Rattle.std.proofs.lemmas.List.{map-append}
 use Rattle.std.proofs.lemmas.Bool.{ltb-true}
 use Rattle.arrayvec.specs.ArrayVec.{ArrayVec}
@@ -17,6 +17,11 @@ moved rows pushed old new at row n m count front back =
     rw (back, front, next)
     (ap (λ v. v ++ handed (take m new)) (map-append (λ (a : ℤ × ArrayVec (Option ℤ)). (a.0, a.1.items)) rows ((pos at, row) ∷ []))
     ∙ append_assoc (handed_of rows) ((pos at, row.items) ∷ []) (handed (take m new)))
+
+-- none is left to be handed out
+pub none_moved : (rows : List (ℤ × ArrayVec (Option ℤ))) (old : List (ℕ × Row)) (n : ℕ) → old ≡ [] → handed_of rows ≡ handed_of rows ++ handed (take n old)
+none_moved rows old zero none = sym (append-nil (handed_of rows))
+none_moved rows old (suc n) none = rw none (sym (append-nil (handed_of rows)))
 
 pub pushed : (rows next : List (ℤ × Row)) (old new : List (ℕ × Row)) (at : ℕ) (row : Row) → old ≡ (at, row) ∷ new → next ≡ rows ++ (pos at, row) ∷ [] → next ++ handed new ≡ rows ++ handed old
 pushed rows next old new at row front back = ap (λ l. l ++ handed new) back ∙ append_assoc rows ((pos at, row) ∷ []) (handed new) ∙ ap (λ l. rows ++ handed l) (sym front)

@@ -11,7 +11,7 @@ use Rattle.op_queue.specs.Items.{entries_of}
 use Rattle.op_queue.specs.Logs.{Closed}
 use Rattle.op_queue.specs.declared.item.Item.{Item}
 use Rattle.turn.specs.Turns.{FitsKind, Outs, Put, Answered}
-use Rattle.turn.specs.declared.excerpts.Near.{Near}
+use Rattle.turn.specs.declared.excerpts.Excerpt.{Excerpt}
 use Rattle.turn.specs.declared.outcomes.Change.{Change}
 use Rattle.turn.specs.declared.outcomes.Outputs.{Outputs}
 use Rattle.turn.specs.declared.outcomes.Outputs.TheVariants.{Answers, Items}
@@ -79,7 +79,7 @@ pub record CanLease (o : PlainOperator) (log : Closed) (side : Side) (rows : ℕ
 -- what is handed out: the front that comes out at once, of
 -- at most a batch, and the excerpt that a turn with it needs
 pub record IsLeased (o : PlainOperator) (log : Closed) (side : Side) (rows : ℕ) (i : Item)
-    (n : Near) : Type 0 where
+    (n : Excerpt) : Type 0 where
   pub first : IsFirst o log side i
   pub cut : entries_of i ≡ cut_of (min rows 1024) (inbox_of o side) log
   pub near : n ≡ near_of o.state side i

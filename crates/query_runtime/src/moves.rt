@@ -16,7 +16,7 @@ use operators::{Operator, Refused};
 use physical_plans::Wire;
 use std::alloc::{AllocError, Global};
 use stream_store::Streams;
-use turn::{Change, Near};
+use turn::{Change, Excerpt};
 
 /// Returns what the stream of a number has closed.
 pub(crate) fn log_at(streams: &Streams, stream: u64) -> &Log
@@ -36,7 +36,7 @@ pub(crate) fn leased(
     log: &Log,
     side: Side,
     rows: usize,
-) -> Result<(Item, Near), AllocError>
+) -> Result<(Item, Excerpt), AllocError>
     requires { CanLease operator.now log.now side rows }
     ensures { IfOk result (λ leased. IsLeased operator.now log.now side rows leased.0 leased.1) }
 {

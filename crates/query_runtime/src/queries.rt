@@ -37,7 +37,7 @@ use std::alloc::{AllocError, Global};
 use std::marker::Model;
 use std::sync::Arc;
 use stream_store::Streams;
-use turn::{Change, Kind, Near, Outputs};
+use turn::{Change, Excerpt, Kind, Outputs};
 use values::Row;
 
 /// Is a running query.
@@ -178,7 +178,7 @@ impl RunningQuery {
         operator: usize,
         side: Side,
         rows: usize,
-    ) -> Result<(Item, Near), AllocError>
+    ) -> Result<(Item, Excerpt), AllocError>
         requires here { HasOperator streams.now self.now operator }
         requires may { CanLease (operator_at self.now.operators operator)
             (log_of streams.now self.now operator) side rows }

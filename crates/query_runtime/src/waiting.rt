@@ -173,18 +173,15 @@ fn push_all(rows: &mut AnswerRows, row: &mut Row, mut answers: DatedRows) -> Res
     requires { are_signed answers ≡ true }
     ensures { OnOk result (rows.new ≡ rows.old ++ handed answers) }
 {
-    for _ in 0..answers.len() {
-        match answers.pop_front_into(row) {
-            Some(at) => rows.push(at as i64, row.as_slice())?,
-            None => unreachable!(),
-        }
+    while let Some(at) = answers.pop_front_into(row) {
+        rows.push(at as i64, row.as_slice())?;
     }
     Ok(())
 }
 
-/// Moves the first `count` answers to the end of the rows, which have room for them.
+/// Moves the first `count` answers, or all if there are fewer, to the end of the rows, which have
+/// room for them.
 fn move_front(answers: &mut DatedRows, rows: &mut Vec<(i64, Row)>, count: usize)
-    requires enough { count ≤ length answers.old }
     requires room { vec_len rows.old + count ≤ vec_capacity rows.old }
     requires instants { are_signed answers.old ≡ true }
     ensures rows { handed_of rows.new.items
@@ -192,9 +189,9 @@ fn move_front(answers: &mut DatedRows, rows: &mut Vec<(i64, Row)>, count: usize)
     ensures rest { answers.new ≡ drop count answers.old }
 {
     for _ in 0..count {
-        match answers.pop_front() {
-            Some((at, row)) => rows.push_reserved((at as i64, row)),
-            None => unreachable!(),
-        }
+        let Some((at, row)) = answers.pop_front() else {
+            return;
+        };
+        rows.push_reserved((at as i64, row));
     }
 }

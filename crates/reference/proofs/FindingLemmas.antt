@@ -59,7 +59,7 @@ unfolding columns_at
 few_columns catalog None h = omega arith
 few_columns catalog (Some n) h = few_at catalog n h
 
-few_widths : (catalog : List catalogs.Stream) (sources : List syntax.Source) → AreNarrow catalog
+few_widths : (catalog : List catalogs.Stream) (sources : List syntax.WrittenSource) → AreNarrow catalog
     → sum (map (λ t. length t.columns) (tables catalog sources)) ≤ 8 * length sources
 unfolding columns_at
 few_widths catalog [] h = omega arith

@@ -46,7 +46,7 @@ instants_back (at ∷ instants) [] values h = cc
 instants_back (at ∷ instants) (width ∷ widths) values h =
     ap (λ xs. at ∷ xs) (instants_back instants widths (drop width values) (suc-injective _ _ h))
 
-widths_back : (instants : List ℤ) (widths : List ℕ) (values : List (Option ℤ)) → length widths ≡ length instants → sum widths ≡ length values
+pub widths_back : (instants : List ℤ) (widths : List ℕ) (values : List (Option ℤ)) → length widths ≡ length instants → sum widths ≡ length values
     → map (λ r. length r.1) (rows_in instants widths values) ≡ widths
 widths_back [] [] values h s = refl
 widths_back [] (width ∷ widths) values h s = cc

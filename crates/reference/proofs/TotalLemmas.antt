@@ -19,10 +19,10 @@ joined_more : (f : ℤ → ℤ → ℤ) (xs : List ℤ) (v : Option ℤ) → red
 joined_more f xs None = ap (reduce f) (append-nil xs)
 joined_more f xs (Some x) = joined_last f xs x
 
-one_number : (c : conditions.Column) (u : List Row) (v : Option ℤ) → conditions.field u c ≡ v → relations.numbers c (u ∷ []) ≡ filter_map (λ (o : Option ℤ). o) (v ∷ [])
+one_number : (c : conditions.SourceColumn) (u : List Row) (v : Option ℤ) → conditions.field u c ≡ v → relations.numbers c (u ∷ []) ≡ filter_map (λ (o : Option ℤ). o) (v ∷ [])
 one_number c u v e = rw e
 
-numbers_done : (c : conditions.Column) (ts : List CodeTable) (i : ℕ) (t : CodeTable) → i < length ts → t ≡ get_or ts i t
+numbers_done : (c : conditions.SourceColumn) (ts : List CodeTable) (i : ℕ) (t : CodeTable) → i < length ts → t ≡ get_or ts i t
     → relations.numbers c (tables_of (take (i + 1) ts)) ≡ relations.numbers c (tables_of (take i ts)) ++ filter_map (λ (o : Option ℤ). o) (conditions.field (table_of t) c ∷ [])
 numbers_done c ts i t h is =
     ap (relations.numbers c) (tables_done ts i t h ∙ ap (λ (u : CodeTable). tables_of (take i ts) ++ table_of u ∷ []) (sym is))
@@ -30,7 +30,7 @@ numbers_done c ts i t h is =
     ∙ ap (λ v. relations.numbers c (tables_of (take i ts)) ++ v) (one_number c (table_of t) (conditions.field (table_of t) c) refl)
 
 -- a running sum, minimum or maximum
-pub reduce_done : (f : ℤ → ℤ → ℤ) (c : conditions.Column) (ts : List CodeTable) (i : ℕ) (t : CodeTable) → i < length ts → t ≡ get_or ts i t
+pub reduce_done : (f : ℤ → ℤ → ℤ) (c : conditions.SourceColumn) (ts : List CodeTable) (i : ℕ) (t : CodeTable) → i < length ts → t ≡ get_or ts i t
     → reduce f (relations.numbers c (tables_of (take (i + 1) ts))) ≡ joined f (reduce f (relations.numbers c (tables_of (take i ts)))) (conditions.field (table_of t) c)
 reduce_done f c ts i t h is =
     ap (reduce f) (numbers_done c ts i t h is) ∙ joined_more f (relations.numbers c (tables_of (take i ts))) (conditions.field (table_of t) c)
@@ -40,7 +40,7 @@ length_one None = refl
 length_one (Some x) = refl
 
 -- a running count
-pub count_done : (c : conditions.Column) (ts : List CodeTable) (i : ℕ) (t : CodeTable) → i < length ts → t ≡ get_or ts i t
+pub count_done : (c : conditions.SourceColumn) (ts : List CodeTable) (i : ℕ) (t : CodeTable) → i < length ts → t ≡ get_or ts i t
     → length (relations.numbers c (tables_of (take (i + 1) ts))) ≡ length (relations.numbers c (tables_of (take i ts))) + cond (is_some (conditions.field (table_of t) c)) 1 0
 count_done c ts i t h is =
     ap length (numbers_done c ts i t h is)

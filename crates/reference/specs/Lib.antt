@@ -25,3 +25,5 @@ pub mod Opening
 pub mod OpeningExamples
 pub mod Alike
 pub mod AlikeExamples
+pub mod WhereOf
+pub mod WhereOfExamples

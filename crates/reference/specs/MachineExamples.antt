@@ -4,7 +4,7 @@ use Rattle.std.specs.Prelude.{◌≡◌, ℕ, false, true, [], ◌∷◌, Option
 use Rattle.std.specs.Prelude.{Err, ℤ, pos, negsuc, refl}
 use Rattle.cql_reader.specs.Lexis as words
 use Rattle.values.specs.Window.{Range}
-use Rattle.values.specs.Condition.{Column}
+use Rattle.values.specs.Condition.{SourceColumn}
 use Rattle.values.specs.Relation.{Listed}
 use Rattle.values.specs.Answers.{Resolved, Istream}
 use Rattle.reference.specs.declared.fault.Fault.TheVariants.{UnknownStream, UnknownQuery, BadWidth}
@@ -24,7 +24,7 @@ use Rattle.reference.specs.World.{World, begins_at, drain_step, drop_step, peek_
 abbrev num : ℕ → Option ℤ
 num n = Some (pos n)
 
-abbrev a : Column
+abbrev a : SourceColumn
 a = record { source = 0; column = 0 }
 
 -- a stream S(a) with all open

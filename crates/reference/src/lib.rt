@@ -20,6 +20,7 @@ mod refusals;
 mod standing;
 mod status;
 mod stream;
+mod where_of;
 
 pub use answer_rows::AnswerRows;
 pub use answering::Answering;
@@ -44,10 +45,11 @@ pub use new_rows::{NewRows, value_of};
 pub use place::first_instant;
 pub use plain::Plain;
 pub use plain::changes::names_of;
-pub use plan::{Chart, Kind, PlanFault};
+pub use plan::{Chart, NodeKind, PlanFault};
 pub use refusals::{
     append_fault, are_columns, declare_fault, heartbeat_fault, register_fault, take_fault,
     turn_fault,
 };
 pub use standing::{move_front, paired};
 pub use status::{QueryStatus, Status, StreamStatus};
+pub use where_of::{byte_at_fault, column_at_fault, row_at_fault};

@@ -1,6 +1,6 @@
 //! Keeps rows on their way into a stream.
 ghost use Rattle.std.specs.Prelude.{◌≡◌, ◌↔◌, ◌+◌, ◌≤◌, ◌++◌, ◌∷◌, [], IsTrue, IfOk, OnOk, OnErr};
-ghost use Rattle.std.specs.Prelude.{length, map, nat_abs, pos, true, false, sum, not, ◌==◌, int_lt};
+ghost use Rattle.std.specs.Prelude.{length, map, nat_abs, true, false, sum, not, ◌==◌, int_lt};
 ghost use Rattle.std.specs.Prelude.{vec_len, vec_capacity};
 ghost use Rattle.std.specs.List.{list_any, list_all};
 ghost use Rattle.reference.specs.NewRows.{rows_in};
@@ -143,6 +143,13 @@ impl NewRows {
         &self.instants
     }
 
+    /// Counts the values of each row, one row after another. Takes no memory.
+    pub(crate) fn widths(&self) -> &[usize]
+        ensures { result.now ≡ map (λ r. length r.1) self.now }
+    {
+        &self.widths
+    }
+
     /// Returns the values of the rows, one row after another. Takes no memory.
     pub fn values(&self) -> &[Option<i64>]
         ensures { result.now ≡ values_of self.now }
@@ -243,7 +250,8 @@ fn is_stream_value(value: Option<i64>) -> bool
     }
 }
 
-fn all_stream_values(values: &[Option<i64>]) -> bool
+/// Returns whether all values are within the range of streams.
+pub(crate) fn all_stream_values(values: &[Option<i64>]) -> bool
     ensures { result ≡ list_all is_stream_value values.now }
 {
     values.iter().all(|value| is_stream_value(*value))
@@ -256,10 +264,7 @@ pub fn value_of(value: Option<i64>) -> Value
 {
     match value {
         None => Value::null(),
-        Some(number) => match Value::new(number) {
-            Some(value) => value,
-            None => unreachable!(),
-        },
+        Some(number) => Value::answer(number),
     }
 }
 

@@ -181,7 +181,8 @@ fn has_repeat(names: &[String]) -> bool
     false
 }
 
-fn is_among(names: &[String], name: &str) -> bool
+/// Returns whether one of the names is this one.
+pub(crate) fn is_among(names: &[String], name: &str) -> bool
     ensures { result ≡ list_any (bytes_eq name.now) (texts_of names.now) }
 {
     for other in names {

@@ -4,61 +4,61 @@ use Rattle.std.proofs.Math.Seq.{take-add, take-append-add}
 use Rattle.std.proofs.lemmas.List.{drop-append-le, take-append-le, take_all, take_at, drop_all, drop-take, length-take, length-take-le}
 use Rattle.values.specs.declared.TheConstants.{MAX_COLUMNS}
 use Rattle.values.specs.Row.{Row}
-use Rattle.row_bags.specs.declared.dated_rows.Head.{Head}
+use Rattle.row_bags.specs.declared.dated_rows.DatedHead.{DatedHead}
 use Rattle.row_bags.specs.Dated.{dated_by, AreHeaded, count_values}
 
 abbrev Values : Type 0
 Values = List (Option ℤ)
 
-pub length-dated_by : (hs : List Head) (vs : Values) → length (dated_by hs vs) ≡ length hs
+pub length-dated_by : (hs : List DatedHead) (vs : Values) → length (dated_by hs vs) ≡ length hs
 length-dated_by [] vs = refl
 length-dated_by (h ∷ hs) vs = ap (λ (n : ℕ). suc n) (length-dated_by hs (drop h.width vs))
 
 -- MORE ROWS
 
-pub dated_by-append : (hs gs : List Head) (vs ws : Values) → AreHeaded hs vs → dated_by (hs ++ gs) (vs ++ ws) ≡ dated_by hs vs ++ dated_by gs ws
+pub dated_by-append : (hs gs : List DatedHead) (vs ws : Values) → AreHeaded hs vs → dated_by (hs ++ gs) (vs ++ ws) ≡ dated_by hs vs ++ dated_by gs ws
 dated_by-append [] gs vs ws a = ap (λ (v : Values). dated_by gs (v ++ ws)) a
 dated_by-append (h ∷ hs) gs vs ws a =
     ap₂ (λ (r v : Values). (h.instant, r) ∷ dated_by (hs ++ gs) v) (take-append-le h.width vs ws a.1) (drop-append-le h.width vs ws a.1)
     ∙ ap (λ (es : List (ℕ × Row)). (h.instant, take h.width vs) ∷ es) (dated_by-append hs gs (drop h.width vs) ws a.2)
 
-pub AreHeaded-append : (hs gs : List Head) (vs ws : Values) → AreHeaded hs vs → AreHeaded gs ws → AreHeaded (hs ++ gs) (vs ++ ws)
+pub AreHeaded-append : (hs gs : List DatedHead) (vs ws : Values) → AreHeaded hs vs → AreHeaded gs ws → AreHeaded (hs ++ gs) (vs ++ ws)
 AreHeaded-append [] gs vs ws a b = subst (λ (v : Values). AreHeaded gs (v ++ ws)) (sym a) b
 AreHeaded-append (h ∷ hs) gs vs ws a b =
     (a.0, omega (arith, a.1, length-append vs ws), subst (AreHeaded (hs ++ gs)) (sym (drop-append-le h.width vs ws a.1)) (AreHeaded-append hs gs (drop h.width vs) ws a.2 b))
 
 -- one row more
-pub dated_by-more : (hs : List Head) (vs r : Values) (h : Head) → AreHeaded hs vs → h.width ≡ length r → dated_by (hs ++ h ∷ []) (vs ++ r) ≡ dated_by hs vs ++ (h.instant, r) ∷ []
+pub dated_by-more : (hs : List DatedHead) (vs r : Values) (h : DatedHead) → AreHeaded hs vs → h.width ≡ length r → dated_by (hs ++ h ∷ []) (vs ++ r) ≡ dated_by hs vs ++ (h.instant, r) ∷ []
 dated_by-more hs vs r h a e =
     dated_by-append hs (h ∷ []) vs r a
     ∙ ap (λ (s : Row). dated_by hs vs ++ (h.instant, s) ∷ []) (take_all h.width r (omega (arith, e)))
 
-pub AreHeaded-more : (hs : List Head) (vs r : Values) (h : Head) → AreHeaded hs vs → h.width ≡ length r → length r ≤ MAX_COLUMNS → AreHeaded (hs ++ h ∷ []) (vs ++ r)
+pub AreHeaded-more : (hs : List DatedHead) (vs r : Values) (h : DatedHead) → AreHeaded hs vs → h.width ≡ length r → length r ≤ MAX_COLUMNS → AreHeaded (hs ++ h ∷ []) (vs ++ r)
 AreHeaded-more hs vs r h a e few =
     AreHeaded-append hs (h ∷ []) vs r a (omega (arith, e, few), omega (arith, e), drop_all h.width r (omega (arith, e)))
 
 -- THE FIRST ROWS
 
-pub count-within : (n : ℕ) (hs : List Head) (vs : Values) → AreHeaded hs vs → count_values (take n hs) ≤ length vs
+pub count-within : (n : ℕ) (hs : List DatedHead) (vs : Values) → AreHeaded hs vs → count_values (take n hs) ≤ length vs
 count-within zero hs vs a = omega arith
 count-within (suc n) [] vs a = omega arith
 count-within (suc n) (h ∷ hs) vs a = omega (arith, a.1, count-within n hs (drop h.width vs) a.2, length-drop h.width vs)
 
-pub count-next : (n : ℕ) (hs : List Head) (h : Head) → n < length hs → h ≡ get_or hs n h → count_values (take (n + 1) hs) ≡ count_values (take n hs) + h.width
+pub count-next : (n : ℕ) (hs : List DatedHead) (h : DatedHead) → n < length hs → h ≡ get_or hs n h → count_values (take (n + 1) hs) ≡ count_values (take n hs) + h.width
 count-next n [] h lt e = absurd (omega (arith, lt))
-count-next zero (g ∷ hs) h lt e = ap (λ (f : Head). f.width + 0) (sym e) ∙ omega arith
+count-next zero (g ∷ hs) h lt e = ap (λ (f : DatedHead). f.width + 0) (sym e) ∙ omega arith
 count-next (suc n) (g ∷ hs) h lt e =
     let k : suc n + 1 ≡ suc (n + 1) = omega arith in
     ap (λ (m : ℕ). count_values (take m (g ∷ hs))) k
     ∙ omega (arith, count-next n hs h (omega (arith, lt)) e)
 
-pub count-least : (n m : ℕ) (hs : List Head) → n ≤ m → count_values (take n hs) ≤ count_values (take m hs)
+pub count-least : (n m : ℕ) (hs : List DatedHead) → n ≤ m → count_values (take n hs) ≤ count_values (take m hs)
 count-least zero m hs le = omega arith
 count-least (suc n) zero hs le = absurd (omega (arith, le))
 count-least (suc n) (suc m) [] le = omega arith
 count-least (suc n) (suc m) (h ∷ hs) le = omega (arith, count-least n m hs (omega (arith, le)))
 
-pub within-rows : (hs : List Head) (vs : Values) (rows : List (ℕ × Row)) → dated_by hs vs ≡ rows → length rows ≡ length hs
+pub within-rows : (hs : List DatedHead) (vs : Values) (rows : List (ℕ × Row)) → dated_by hs vs ≡ rows → length rows ≡ length hs
 within-rows hs vs rows e = sym (ap (λ (es : List (ℕ × Row)). length es) e) ∙ length-dated_by hs vs
 
 pub take-seam : {A : Type 0} (n : ℕ) (xs ys zs : List A) → xs ++ ys ≡ zs → length xs ≤ n → xs ++ take (n - length xs) ys ≡ take n zs
@@ -69,7 +69,7 @@ take-seam {A = A} n xs ys zs e le =
 take-first : (w m : ℕ) (vs : Values) → w ≤ length vs → take w (take (w + m) vs) ≡ take w vs
 take-first w m vs le = ap (λ (v : Values). take w v) (take-add w m vs) ∙ take_at (take w vs) (take m (drop w vs)) w (length-take-le w vs le)
 
-pub dated_by-first : (n : ℕ) (hs : List Head) (vs : Values) → AreHeaded hs vs → dated_by (take n hs) (take (count_values (take n hs)) vs) ≡ take n (dated_by hs vs)
+pub dated_by-first : (n : ℕ) (hs : List DatedHead) (vs : Values) → AreHeaded hs vs → dated_by (take n hs) (take (count_values (take n hs)) vs) ≡ take n (dated_by hs vs)
 dated_by-first zero hs vs a = refl
 dated_by-first (suc n) [] vs a = refl
 dated_by-first (suc n) (h ∷ hs) vs a =
@@ -77,7 +77,7 @@ dated_by-first (suc n) (h ∷ hs) vs a =
     ap₂ (λ (r v : Values). (h.instant, r) ∷ dated_by (take n hs) v) (take-first h.width m vs a.1) (drop-take h.width m vs)
     ∙ ap (λ (es : List (ℕ × Row)). (h.instant, take h.width vs) ∷ es) (dated_by-first n hs (drop h.width vs) a.2)
 
-pub AreHeaded-first : (n : ℕ) (hs : List Head) (vs : Values) → AreHeaded hs vs → AreHeaded (take n hs) (take (count_values (take n hs)) vs)
+pub AreHeaded-first : (n : ℕ) (hs : List DatedHead) (vs : Values) → AreHeaded hs vs → AreHeaded (take n hs) (take (count_values (take n hs)) vs)
 AreHeaded-first zero hs vs a = refl
 AreHeaded-first (suc n) [] vs a = refl
 AreHeaded-first (suc n) (h ∷ hs) vs a =

@@ -11,7 +11,7 @@ use values::{MAX_COLUMNS, Row, Value};
 
 /// Holds the instant of a row, and how many values the row has.
 #[derive(Clone, Copy)]
-pub(crate) struct Head {
+pub(crate) struct DatedHead {
     /// Holds the row's instant.
     instant: u64,
     /// Counts the values that the row has.
@@ -24,7 +24,7 @@ pub(crate) struct Head {
 #[derive(Drop)]
 pub struct DatedRows {
     /// Holds the instant and the width of each row, the first in front.
-    heads: VecDeque<Head>,
+    heads: VecDeque<DatedHead>,
     /// Holds the rows' values in the same order, one row after the other.
     values: VecDeque<Value>,
 }
@@ -71,7 +71,7 @@ impl DatedRows {
         self.heads.reserve(1)?;
         self.values.reserve(row.len())?;
         let width = row.len();
-        self.heads.push_back_reserved(Head { instant, width });
+        self.heads.push_back_reserved(DatedHead { instant, width });
         push_values(&mut self.values, row);
         Ok(())
     }
@@ -173,7 +173,7 @@ impl DatedRows {
 }
 
 /// Returns how many values the first `count` rows have together.
-fn values_of_first(heads: &VecDeque<Head>, count: usize) -> usize
+fn values_of_first(heads: &VecDeque<DatedHead>, count: usize) -> usize
     requires within { count ≤ length heads.now.items }
     requires few { count_values (take count heads.now.items) < 2 ^ 63 }
     ensures { result ≡ count_values (take count heads.now.items) }
@@ -216,10 +216,8 @@ fn move_row(values: &mut VecDeque<Value>, width: usize, row: &mut Row)
     ensures rest { values.new.items ≡ drop width values.old.items }
 {
     for _ in 0..width {
-        match values.pop_front() {
-            Some(value) => row.push(value),
-            None => unreachable!(),
-        }
+        row.push(values[0]);
+        values.pop_front();
     }
 }
 

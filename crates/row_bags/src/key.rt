@@ -17,14 +17,14 @@ use values::{Row, Value, value_at};
 /// Null fills the places that the row lacks. Null is below every number, so two keys compare value
 /// by value, whatever they lack. How many values they have counts only if all are equal.
 #[derive(Drop)]
-pub(crate) struct Key<const N: usize> {
+pub(crate) struct RowKey<const N: usize> {
     /// Holds the row's values, then null.
     values: [Value; N],
     /// Counts the values that the row has.
     len: usize,
 }
 
-impl<const N: usize> Model for Key<N> {
+impl<const N: usize> Model for RowKey<N> {
     ghost use Rattle.std.specs.Prelude.{ℤ, Option, ◌≡◌, ◌≤◌, ◌-◌, ◌++◌, take, replicate, None};
     ghost use Rattle.arrayvec.specs.ArrayVec.{ArrayVec};
     ghost use Rattle.values.specs.Row.{value_at};
@@ -38,9 +38,9 @@ impl<const N: usize> Model for Key<N> {
         × (k.values ≡ take k.len k.values ++ replicate (N - k.len) None) };
 }
 
-impl<const N: usize> Key<N> {
+impl<const N: usize> RowKey<N> {
     /// Returns the row as a key.
-    pub(crate) fn of(row: &Row) -> Key<N>
+    pub(crate) fn of(row: &Row) -> RowKey<N>
         requires fits { length row.now.items ≤ N }
         requires few { N ≤ MAX_COLUMNS }
         ensures { result.items ≡ row.now.items }
@@ -49,14 +49,14 @@ impl<const N: usize> Key<N> {
         for place in 0..N {
             values[place] = value_at(row, place);
         }
-        Key {
+        RowKey {
             values,
             len: row.len(),
         }
     }
 
     /// Returns the row as a key, or `None` if it has more than `N` values.
-    pub(crate) fn fitted(row: &Row) -> Option<Key<N>>
+    pub(crate) fn fitted(row: &Row) -> Option<RowKey<N>>
         requires { N ≤ MAX_COLUMNS }
         ensures some { IfSome result (λ key. (key.items ≡ row.now.items)
             × (length row.now.items ≤ N)) }
@@ -65,7 +65,7 @@ impl<const N: usize> Key<N> {
         if row.len() > N {
             return None;
         }
-        Some(Key::of(row))
+        Some(RowKey::of(row))
     }
 
     /// Returns the row's values.
@@ -100,11 +100,11 @@ impl<const N: usize> Key<N> {
     }
 
     /// Returns the same row in room for `M` values.
-    pub(crate) fn widened<const M: usize>(&self) -> Key<M>
+    pub(crate) fn widened<const M: usize>(&self) -> RowKey<M>
         requires { (N ≤ M) × (M ≤ MAX_COLUMNS) }
         ensures { result ≡ self.now }
     {
-        Key::of(&self.row())
+        RowKey::of(&self.row())
     }
 
     /// Returns whether the row starts with the values of `front`. The empty row is a prefix of
@@ -116,7 +116,7 @@ impl<const N: usize> Key<N> {
     }
 }
 
-impl<const N: usize> PartialEq for Key<N> {
+impl<const N: usize> PartialEq for RowKey<N> {
     ghost eq = { eq_by_cmp array_cmp };
 
     ghost laws = { partial_equiv_from_equiv (eq_by_cmp_equiv array_total) };
@@ -126,11 +126,11 @@ impl<const N: usize> PartialEq for Key<N> {
     }
 }
 
-impl<const N: usize> Eq for Key<N> {
+impl<const N: usize> Eq for RowKey<N> {
     ghost laws = { eq_by_cmp_equiv array_total };
 }
 
-impl<const N: usize> PartialOrd for Key<N> {
+impl<const N: usize> PartialOrd for RowKey<N> {
     ghost partial_cmp = { as_partial_cmp array_cmp };
 
     ghost laws = { partial_order_from_total array_total };
@@ -140,7 +140,7 @@ impl<const N: usize> PartialOrd for Key<N> {
     }
 }
 
-impl<const N: usize> Ord for Key<N> {
+impl<const N: usize> Ord for RowKey<N> {
     ghost cmp = { array_cmp };
 
     ghost total = { array_total };

@@ -7,8 +7,8 @@
 //! A `Delta` is what entered and what left since it was empty, each cut by the other. It keeps the
 //! rows as they came, and sorts them when asked.
 //!
-//! A row that is held takes the room of the widest that came, rounded up to 2, 4, 8, 16 or
-//! `MAX_COLUMNS` values. `DatedRows` holds rows with their instants, as answers wait.
+//! A bag or a pile has room in each row for 2, 4, 8, 16 or `MAX_COLUMNS` values, the least that the
+//! widest row that came needs. `DatedRows` holds rows with their instants, as answers wait.
 //!
 //! `proofs/BagLaws.antt` and `proofs/DeltaLaws.antt` say how these lists relate to the bags that
 //! signed rows turn into one another.

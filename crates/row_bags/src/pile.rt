@@ -13,6 +13,19 @@ use column::Batch;
 use std::alloc::{AllocError, Global};
 use values::{MAX_COLUMNS, Row, Value};
 
+/// Is the expression with `rows` bound to the rows, whatever their room.
+macro_rules! with_rows {
+    ($pile:expr, $rows:ident => $body:expr) => {
+        match $pile {
+            Pile::Two($rows) => $body,
+            Pile::Four($rows) => $body,
+            Pile::Eight($rows) => $body,
+            Pile::Sixteen($rows) => $body,
+            Pile::Widest($rows) => $body,
+        }
+    };
+}
+
 /// Keeps rows in the order in which they came, by how many values each may have.
 #[derive(Drop)]
 pub(crate) enum Pile {
@@ -76,13 +89,7 @@ impl Pile {
         ensures ok { OnOk result (pile_in self.new ≡ pile_in self.old ++ row.now.items ∷ []) }
         ensures err { OnErr result (pile_in self.new ≡ pile_in self.old) }
     {
-        match self {
-            Pile::Two(rows) => push_copy(rows, row),
-            Pile::Four(rows) => push_copy(rows, row),
-            Pile::Eight(rows) => push_copy(rows, row),
-            Pile::Sixteen(rows) => push_copy(rows, row),
-            Pile::Widest(rows) => push_copy(rows, row),
-        }
+        with_rows!(self, rows => push_copy(rows, row))
     }
 
     /// Appends the row at a place of a batch.
@@ -92,13 +99,7 @@ impl Pile {
         ensures { OnOk result (pile_in self.new
             ≡ pile_in self.old ++ (slice_index_or batch.now place (true, [])).1 ∷ []) }
     {
-        match self {
-            Pile::Two(rows) => push_row_at(rows, batch, place),
-            Pile::Four(rows) => push_row_at(rows, batch, place),
-            Pile::Eight(rows) => push_row_at(rows, batch, place),
-            Pile::Sixteen(rows) => push_row_at(rows, batch, place),
-            Pile::Widest(rows) => push_row_at(rows, batch, place),
-        }
+        with_rows!(self, rows => push_row_at(rows, batch, place))
     }
 
     /// Returns a copy whose rows are in order.
@@ -127,39 +128,21 @@ impl Pile {
     pub(crate) fn sort(&mut self)
         ensures { pile_in self.new ≡ in_order row_cmp (pile_in self.old) }
     {
-        match self {
-            Pile::Two(rows) => sort_rows(rows),
-            Pile::Four(rows) => sort_rows(rows),
-            Pile::Eight(rows) => sort_rows(rows),
-            Pile::Sixteen(rows) => sort_rows(rows),
-            Pile::Widest(rows) => sort_rows(rows),
-        }
+        with_rows!(self, rows => sort_rows(rows))
     }
 
     /// Drops the rows, and keeps their memory for those to come.
     pub(crate) fn clear(&mut self)
         ensures { pile_in self.new ≡ [] }
     {
-        match self {
-            Pile::Two(rows) => rows.clear(),
-            Pile::Four(rows) => rows.clear(),
-            Pile::Eight(rows) => rows.clear(),
-            Pile::Sixteen(rows) => rows.clear(),
-            Pile::Widest(rows) => rows.clear(),
-        }
+        with_rows!(self, rows => rows.clear())
     }
 
     /// Returns the number of rows.
     pub(crate) fn len(&self) -> usize
         ensures { result ≡ length (pile_in self.now) }
     {
-        match self {
-            Pile::Two(rows) => rows.len(),
-            Pile::Four(rows) => rows.len(),
-            Pile::Eight(rows) => rows.len(),
-            Pile::Sixteen(rows) => rows.len(),
-            Pile::Widest(rows) => rows.len(),
-        }
+        with_rows!(self, rows => rows.len())
     }
 
     /// Returns at least as many values as its rows have together.
@@ -173,13 +156,7 @@ impl Pile {
         ensures value { result.now ≡ slice_index_or (pile_in self.now) place [] }
         ensures few { length result.now ≤ MAX_COLUMNS }
     {
-        match self {
-            Pile::Two(rows) => rows[place].as_slice(),
-            Pile::Four(rows) => rows[place].as_slice(),
-            Pile::Eight(rows) => rows[place].as_slice(),
-            Pile::Sixteen(rows) => rows[place].as_slice(),
-            Pile::Widest(rows) => rows[place].as_slice(),
-        }
+        with_rows!(self, rows => rows[place].as_slice())
     }
 }
 

@@ -5,7 +5,7 @@ use Rattle.std.specs.declared.cmp.Ordering.TheVariants.{Less, Equal, Greater}
 use Rattle.std.specs.Ordering.{int_cmp, ordering_reverse}
 use Rattle.std.proofs.lemmas.Cmp.{int_cmp_total}
 use Rattle.values.specs.Row.{Row, value_at}
-use Rattle.values.specs.Condition.{Condition, Compared, Not, And, Or, Operand, Field, Number, Column, passes, compared, field, operand, truth}
+use Rattle.values.specs.Condition.{Condition, Compared, Not, And, Or, Operand, Field, Number, SourceColumn, passes, compared, field, operand, truth}
 use Rattle.values.specs.declared.resolved.Compare.{Compare}
 use Rattle.values.specs.declared.resolved.Compare.TheVariants.{Equals, Differs, Below, AtMost, Above, AtLeast}
 use Rattle.lane_kernels.specs.Steps.{StepsFit, after, after_all}
@@ -39,7 +39,7 @@ turned_compared : (how : Compare) (y : ℤ) (v : Option ℤ) → compared (turne
 turned_compared how y None = refl
 turned_compared how y (Some x) = ap (λ o. Some (passes (turned how) o)) (int_cmp_total.antisymm x y) ∙ ap Some (turned_passes how (int_cmp y x))
 
-field_of : (row : Row) (c : Column) → c.source ≡ 0 → field (row ∷ []) c ≡ value_at row c.column
+field_of : (row : Row) (c : SourceColumn) → c.source ≡ 0 → field (row ∷ []) c ≡ value_at row c.column
 field_of row c e = ap (λ k. value_at (get_or (row ∷ []) k []) c.column) e
 
 step_means : (a : Operand) (how : Compare) (b : Operand) (row : Row) (ts : List (Option Bool)) → OperandIsOfOne a → OperandIsOfOne b

@@ -1,7 +1,7 @@
 -- The definitions at worked rows and conditions.
 use Rattle.std.specs.Prelude.{◌≡◌, ℕ, true, false, Option, Some, None, ℤ, pos, [], ◌∷◌, refl}
 use Rattle.values.specs.Row.{Row}
-use Rattle.values.specs.Condition.{Column, Compared, Condition, Not, And, Or, Field, Number}
+use Rattle.values.specs.Condition.{SourceColumn, Compared, Condition, Not, And, Or, Field, Number}
 use Rattle.values.specs.declared.resolved.Compare.TheVariants.{Equals, Below, Above}
 use Rattle.lane_kernels.specs.declared.condition.Step.TheVariants as step
 use Rattle.op_queue.specs.Entries.{RowAt, TickAt}
@@ -17,7 +17,7 @@ abbrev two : Option ℤ → Option ℤ → Row
 two a b = a ∷ b ∷ []
 
 -- column k of the only source
-abbrev at : ℕ → Column
+abbrev at : ℕ → SourceColumn
 at k = record { source = 0; column = k }
 
 -- 5 < a, and b = a or not b > 3

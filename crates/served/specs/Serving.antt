@@ -8,7 +8,7 @@ use Rattle.hub.specs.Steps as hub
 use Rattle.hub.specs.Steps.{PlainLocked, FindsQuery, Hands, Rests, SeesPeek, SeesSlopes, SeesStatus}
 use Rattle.hub.specs.Steps.{Spurned, SpurnedNamed, Took, TookNamed}
 use Rattle.leases.specs.declared.leased.Leased.TheVariants.{Idle}
-use Rattle.plan.specs.declared.node.Kind.{Kind}
+use Rattle.plan.specs.declared.node.NodeKind.{NodeKind}
 use Rattle.reference.specs.Commands.{Command, Declare, Register, Append, Heartbeat, Take, Drop}
 use Rattle.reference.specs.Machine.{Machine, query_named, stream_named}
 use Rattle.reference.specs.Replies as replies
@@ -85,7 +85,7 @@ DropsNamed name seat answer seat' =
 abbrev pub Looks : ℕ → Answer → Type 0
 Looks n (operators found) = (l : PlainLocked) × SeesSlopes (λ seen. seen) l n (Ok found)
 Looks n (refused fault) = (l : PlainLocked)
-    × SeesSlopes (λ (seen : List (Kind × Fraction)). seen) l n (Err fault)
+    × SeesSlopes (λ (seen : List (NodeKind × Fraction)). seen) l n (Err fault)
 Looks n answer = ⊥
 
 abbrev pub LooksNamed : List ℕ → Answer → Type 0

@@ -9,7 +9,7 @@ use crate::alarm::{Alarm, Failure};
 use crate::connection::Connection;
 use crate::door::Door;
 use crate::duty::{Duty, Telling, take_back};
-use command_lines::ServeOptions;
+use command_lines::{ServeOptions, TURN_ROWS};
 use hub::{Hub, MAX_HISTORY, Seat};
 use std::alloc::{AllocError, Global};
 use std::net::{TcpListener, TcpStream};
@@ -19,9 +19,6 @@ use std::time::Duration;
 use std::{io, thread};
 use wire::{ReaderSource, Sink, WriterSink, put};
 use workers::{NoGate, help};
-
-/// Limits the rows of a turn.
-const ROWS: u32 = 256;
 
 /// Runs the server once its listener is bound: says where it listens, answers connections, closes
 /// the hub, and returns its status. The status is 0 if nothing failed, and the history and the
@@ -214,7 +211,7 @@ fn run_threads<R: Threads + Wait + Sync, D: Duty + Drop>(
             let threads = workers as usize;
             for _ in 0..workers {
                 if scope
-                    .spawn(move || help(rt, alloc, hub, &NoGate, ROWS, threads))
+                    .spawn(move || help(rt, alloc, hub, &NoGate, TURN_ROWS, threads))
                     .is_err()
                 {
                     lack_thread(rt, &mut held, alarm);
@@ -280,7 +277,7 @@ fn client<R: Threads + Wait + Sync>(
         if prepare(&stream, idle).is_err() {
             continue;
         }
-        let connection = Connection::watched(rt, alloc, hub, ROWS, forget, threads, alarm);
+        let connection = Connection::watched(rt, alloc, hub, TURN_ROWS, forget, threads, alarm);
         let mut source = ReaderSource::new(&stream);
         let mut sink = WriterSink::new(&stream);
         let _ = connection.serve(&mut source, &mut sink, &mut seat);

@@ -9,7 +9,7 @@ use Rattle.values.specs.Window.{Element}
 use Rattle.op_queue.proofs.RunLemmas.{range_with_len-add}
 use Rattle.stream_store.specs.Open.{elements_at}
 use Rattle.stream_store.specs.LateRows.{IsFlat, lent_rows, numbered_rows, rows_in}
-use Rattle.stream_store.specs.declared.ordered_rows.Head.{Head}
+use Rattle.stream_store.specs.declared.ordered_rows.OrderedHead.{OrderedHead}
 use Rattle.stream_store.specs.OpenRows.{headed, instant_of, key_of, keys_from, risen_in}
 
 -- the values of a first row, and of the others
@@ -134,7 +134,7 @@ one_number first number start old new le pushed sofar =
 abbrev keyed : (ℕ × ℕ) × Row → Element
 keyed r = record { arrival = r.0.1; instant = r.0.0; row = r.1 }
 
-risen-keyed : (width : ℕ) (heads : List Head) (values : List (Option ℤ)) → risen_in width heads values ≡ map keyed (rows_in width (map key_of heads) values)
+risen-keyed : (width : ℕ) (heads : List OrderedHead) (values : List (Option ℤ)) → risen_in width heads values ≡ map keyed (rows_in width (map key_of heads) values)
 risen-keyed width [] values = refl
 risen-keyed width (h ∷ heads) values = ap (λ (es : List Element). headed (h, take width values) ∷ es) (risen-keyed width heads (drop width values))
 
@@ -146,7 +146,7 @@ keys-lent width t n (i ∷ instants) values =
     ap (λ (es : List Element). first ∷ es) (keys-lent width t (n + 1) instants (drop width values))
     ∙ ap (λ k. first ∷ elements_at t (numbered_rows k (lent_rows width instants (drop width values)))) next
 
-pub pushed_risen : (width t n : ℕ) (heads more : List Head) (values longer : List (Option ℤ)) (instants : List ℤ) → length values ≡ length heads * width → map key_of more ≡ map key_of heads ++ keys_from t n (length instants)
+pub pushed_risen : (width t n : ℕ) (heads more : List OrderedHead) (values longer : List (Option ℤ)) (instants : List ℤ) → length values ≡ length heads * width → map key_of more ≡ map key_of heads ++ keys_from t n (length instants)
     → risen_in width more (values ++ longer) ≡ risen_in width heads values ++ elements_at t (numbered_rows n (lent_rows width instants longer))
 pushed_risen width t n heads more values longer instants full pushed =
     let keys : List (ℕ × ℕ) = map key_of heads in
@@ -157,7 +157,7 @@ pushed_risen width t n heads more values longer instants full pushed =
     ∙ map-append keyed (rows_in width keys values) (rows_in width new longer)
     ∙ ap₂ (λ (xs ys : List Element). xs ++ ys) (sym (risen-keyed width heads values)) (keys-lent width t n instants longer)
 
-pub one_head : (t first number : ℕ) (h : Head) (start old new : List Head) → first ≤ number → instant_of h ≡ t → h.number ≡ number → new ≡ old ++ h ∷ [] → map key_of old ≡ map key_of start ++ keys_from t first (number - first)
+pub one_head : (t first number : ℕ) (h : OrderedHead) (start old new : List OrderedHead) → first ≤ number → instant_of h ≡ t → h.number ≡ number → new ≡ old ++ h ∷ [] → map key_of old ≡ map key_of start ++ keys_from t first (number - first)
     → map key_of new ≡ map key_of start ++ keys_from t first (number + 1 - first)
 one_head t first number h start old new le at counts pushed sofar =
     let k : ℕ = number - first in
@@ -171,7 +171,7 @@ one_head t first number h start old new le at counts pushed sofar =
     ∙ ap (λ (ks : List (ℕ × ℕ)). keys ++ ks) (sym (map-range_with_len_more (λ m. (t, m)) first k number (omega (arith, le))))
     ∙ ap (λ n. keys ++ keys_from t first n) (sym more)
 
-pub pushed_heads : (t n count : ℕ) (heads more : List Head) → map key_of more ≡ map key_of heads ++ keys_from t n count → length more ≡ length heads + count
+pub pushed_heads : (t n count : ℕ) (heads more : List OrderedHead) → map key_of more ≡ map key_of heads ++ keys_from t n count → length more ≡ length heads + count
 pushed_heads t n count heads more pushed =
     sym (length-map more key_of)
     ∙ ap length pushed

@@ -16,7 +16,7 @@ use Rattle.values.specs.Window.{Element}
 use Rattle.op_queue.specs.Logs.{Closed}
 use Rattle.reference.specs.Machine.{Stream}
 use Rattle.stream_store.specs.declared.starts.Start.{Start}
-use Rattle.stream_store.specs.declared.ordered_rows.Head.{Head}
+use Rattle.stream_store.specs.declared.ordered_rows.OrderedHead.{OrderedHead}
 use Rattle.stream_store.specs.LateRows.{has_rows, rows_in}
 use Rattle.stream_store.specs.Open.{Entry, AreWide, after_put, elements_at, open_of, placed}
 use Rattle.stream_store.specs.OpenRows.{IsOpen, IsRisen, RisenRows, Rising, headed, risen_in, with_late}
@@ -68,23 +68,23 @@ pub length-turned : {X : Type 0} (n : ℕ) (xs : List X) → n ≤ length xs →
 length-turned n xs le = omega (arith, length-append (drop n xs) (take n xs), length-drop n xs, length-take-le n xs le)
 
 module _ (p : Element → Bool) (width : ℕ) where
-  pub turned-kept : (h : Head) (heads : List Head) (values : List (Option ℤ)) → 0 < length heads → length values ≡ length heads * width → h ≡ get_or heads 0 h → p (headed (h, take width values)) ≡ true
+  pub turned-kept : (h : OrderedHead) (heads : List OrderedHead) (values : List (Option ℤ)) → 0 < length heads → length values ≡ length heads * width → h ≡ get_or heads 0 h → p (headed (h, take width values)) ≡ true
       → risen_in width (drop 1 heads ++ take 1 heads) (drop width values ++ take width values) ≡ turned p (risen_in width heads values)
   turned-kept h [] values some full is passes = absurd (omega (arith, some))
   turned-kept h (k ∷ heads) values some full is passes =
       let row : Row = take width values in
-      let stays : p (headed (k, row)) ≡ true = ap (λ (i : Head). p (headed (i, row))) (sym is) ∙ passes in
-      ap (λ (rs : List (Head × Row)). map headed rs) (rows_in-append width heads (k ∷ []) (drop width values) row (rest_full width (length heads) values full))
+      let stays : p (headed (k, row)) ≡ true = ap (λ (i : OrderedHead). p (headed (i, row))) (sym is) ∙ passes in
+      ap (λ (rs : List (OrderedHead × Row)). map headed rs) (rows_in-append width heads (k ∷ []) (drop width values) row (rest_full width (length heads) values full))
       ∙ map-append headed (rows_in width heads (drop width values)) ((k, take width row) ∷ [])
       ∙ ap (λ (r : Row). risen_in width heads (drop width values) ++ headed (k, r) ∷ []) (take-take width width values (omega arith))
       ∙ ap (λ b. risen_in width heads (drop width values) ++ cond b (headed (k, row) ∷ []) []) (sym stays)
 
-  pub turned-gone : (h : Head) (heads : List Head) (values : List (Option ℤ)) → 0 < length heads → h ≡ get_or heads 0 h → p (headed (h, take width values)) ≡ false
+  pub turned-gone : (h : OrderedHead) (heads : List OrderedHead) (values : List (Option ℤ)) → 0 < length heads → h ≡ get_or heads 0 h → p (headed (h, take width values)) ≡ false
       → risen_in width (drop 1 heads) (drop width values) ≡ turned p (risen_in width heads values)
   turned-gone h [] values some is fails = absurd (omega (arith, some))
   turned-gone h (k ∷ heads) values some is fails =
       let row : Row = take width values in
-      let goes : p (headed (k, row)) ≡ false = ap (λ (i : Head). p (headed (i, row))) (sym is) ∙ fails in
+      let goes : p (headed (k, row)) ≡ false = ap (λ (i : OrderedHead). p (headed (i, row))) (sym is) ∙ fails in
       sym (append-nil (risen_in width heads (drop width values)))
       ∙ ap (λ b. risen_in width heads (drop width values) ++ cond b (headed (k, row) ∷ []) []) (sym goes)
 
@@ -104,7 +104,7 @@ rising-filter f p (e ∷ es) h = here (rising-filter f p es h.1) (each-kept (λ 
     here ih first true = (first, ih)
     here ih first false = ih
 
-pub risen-kept : (p : Element → Bool) (width reached : ℕ) (heads new_heads : List Head) (values new_values : List (Option ℤ)) → IsRisen width reached heads values → length new_values ≡ length new_heads * width
+pub risen-kept : (p : Element → Bool) (width reached : ℕ) (heads new_heads : List OrderedHead) (values new_values : List (Option ℤ)) → IsRisen width reached heads values → length new_values ≡ length new_heads * width
     → risen_in width new_heads new_values ≡ filter p (risen_in width heads values) → IsRisen width reached new_heads new_values
 risen-kept p width reached heads new_heads values new_values h full rows = record {
   flat = record { few = h.flat.few; full = full };

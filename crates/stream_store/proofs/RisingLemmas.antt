@@ -6,7 +6,7 @@ use Rattle.std.proofs.lemmas.Bool.{lt-leb, le-leb, lt-ltb, le-ltb}
 use Rattle.std.proofs.lemmas.List.{get_or-drop, get_or-map, length-map, length-take-le, take_more, take-map, drop-map}
 use Rattle.values.specs.Row.{Row}
 use Rattle.values.specs.Window.{Element}
-use Rattle.stream_store.specs.declared.ordered_rows.Head.{Head}
+use Rattle.stream_store.specs.declared.ordered_rows.OrderedHead.{OrderedHead}
 use Rattle.stream_store.specs.LateRows.{IsFlat, numbered_rows, rows_in}
 use Rattle.stream_store.specs.Open.{elements_at, up_to, past}
 use Rattle.stream_store.specs.OpenRows.{Rising, IsRisen, headed, instant_of, risen_in}
@@ -14,22 +14,22 @@ use Rattle.stream_store.proofs.KeyLemmas.{filter_none, filter_all, each_from, ea
 use Rattle.stream_store.proofs.FlatLemmas.{length-rows_in, rows_in-take, rows_in-drop, rows_in-at}
 use Rattle.stream_store.proofs.LateLemmas.{rising-append, rising-at}
 
-pub length-risen : (width : ℕ) (heads : List Head) (values : List (Option ℤ)) → length (risen_in width heads values) ≡ length heads
+pub length-risen : (width : ℕ) (heads : List OrderedHead) (values : List (Option ℤ)) → length (risen_in width heads values) ≡ length heads
 length-risen width heads values = length-map (rows_in width heads values) headed ∙ length-rows_in width heads values
 
-pub risen-take : (width k : ℕ) (heads : List Head) (values : List (Option ℤ)) → risen_in width (take k heads) (take (k * width) values) ≡ take k (risen_in width heads values)
-risen-take width k heads values = ap (λ (rs : List (Head × Row)). map headed rs) (rows_in-take width k heads values) ∙ sym (take-map headed k (rows_in width heads values))
+pub risen-take : (width k : ℕ) (heads : List OrderedHead) (values : List (Option ℤ)) → risen_in width (take k heads) (take (k * width) values) ≡ take k (risen_in width heads values)
+risen-take width k heads values = ap (λ (rs : List (OrderedHead × Row)). map headed rs) (rows_in-take width k heads values) ∙ sym (take-map headed k (rows_in width heads values))
 
-pub risen-drop : (width k : ℕ) (heads : List Head) (values : List (Option ℤ)) → risen_in width (drop k heads) (drop (k * width) values) ≡ drop k (risen_in width heads values)
-risen-drop width k heads values = ap (λ (rs : List (Head × Row)). map headed rs) (rows_in-drop width k heads values) ∙ sym (drop-map headed k (rows_in width heads values))
+pub risen-drop : (width k : ℕ) (heads : List OrderedHead) (values : List (Option ℤ)) → risen_in width (drop k heads) (drop (k * width) values) ≡ drop k (risen_in width heads values)
+risen-drop width k heads values = ap (λ (rs : List (OrderedHead × Row)). map headed rs) (rows_in-drop width k heads values) ∙ sym (drop-map headed k (rows_in width heads values))
 
 -- the element at a place
-pub risen-at : (width i : ℕ) (heads : List Head) (values : List (Option ℤ)) (h : Head) (e : Element) → i < length heads → h ≡ get_or heads i h → get_or (risen_in width heads values) i e ≡ headed (h, take width (drop (i * width) values))
+pub risen-at : (width i : ℕ) (heads : List OrderedHead) (values : List (Option ℤ)) (h : OrderedHead) (e : Element) → i < length heads → h ≡ get_or heads i h → get_or (risen_in width heads values) i e ≡ headed (h, take width (drop (i * width) values))
 risen-at width i heads values h e lt is =
-    let d : Head × Row = (h, []) in
+    let d : OrderedHead × Row = (h, []) in
     get_or-map headed (rows_in width heads values) i d e (omega (arith, lt, length-rows_in width heads values))
     ∙ ap headed (rows_in-at width i heads values h d lt)
-    ∙ ap (λ (k : Head). headed (k, take width (drop (i * width) values))) (sym is)
+    ∙ ap (λ (k : OrderedHead). headed (k, take width (drop (i * width) values))) (sym is)
 
 -- ---- rows that rise
 rising-take : (k : ℕ) (es : List Element) → Rising (λ e. e.instant) es → Rising (λ e. e.instant) (take k es)
@@ -42,10 +42,10 @@ rising-drop zero es h = h
 rising-drop (suc k) [] h = tt
 rising-drop (suc k) (e ∷ es) h = rising-drop k es h.1
 
-flat-fits : (width k : ℕ) (heads : List Head) (values : List (Option ℤ)) → IsFlat width heads values → k ≤ length heads → k * width ≤ length values
+flat-fits : (width k : ℕ) (heads : List OrderedHead) (values : List (Option ℤ)) → IsFlat width heads values → k ≤ length heads → k * width ≤ length values
 flat-fits width k heads values flat le = let most : width * k ≤ width * length heads = mul-le-mul_left width le in omega (arith, most, flat.full)
 
-module _ (width reached : ℕ) (heads : List Head) (values : List (Option ℤ)) (risen : IsRisen width reached heads values) where
+module _ (width reached : ℕ) (heads : List OrderedHead) (values : List (Option ℤ)) (risen : IsRisen width reached heads values) where
   abbrev all : List Element
   all = risen_in width heads values
 
@@ -57,7 +57,7 @@ module _ (width reached : ℕ) (heads : List Head) (values : List (Option ℤ)) 
   row_fits i lt = let le : suc i * width ≤ length values = values_fit (suc i) lt in omega (arith, le)
 
   -- rows of one instant came
-  pub risen_push : (t n : ℕ) (rows : List (ℕ × Row)) (more : List Head) (longer : List (Option ℤ)) → reached ≤ t → risen_in width more longer ≡ all ++ elements_at t (numbered_rows n rows) → length longer ≡ length more * width
+  pub risen_push : (t n : ℕ) (rows : List (ℕ × Row)) (more : List OrderedHead) (longer : List (Option ℤ)) → reached ≤ t → risen_in width more longer ≡ all ++ elements_at t (numbered_rows n rows) → length longer ≡ length more * width
       → IsRisen width t more longer
   risen_push t n rows more longer later pushed full =
       let new : List Element = elements_at t (numbered_rows n rows) in
@@ -168,29 +168,29 @@ reached_end until place es next le h =
     reached_all until place es next (subst (λ (xs : List Element). AllByRecursion (λ g. until < g.instant) xs) (sym (drop_of_length-le es le)) tt) h
 
 -- ---- the same of rows as they are kept
-module _ (width reached : ℕ) (heads : List Head) (values : List (Option ℤ)) (risen : IsRisen width reached heads values) (es : List Element) (shown : risen_in width heads values ≡ es) where
+module _ (width reached : ℕ) (heads : List OrderedHead) (values : List (Option ℤ)) (risen : IsRisen width reached heads values) (es : List Element) (shown : risen_in width heads values ≡ es) where
   pub shown_len : length es ≡ length heads
   shown_len = sym (ap length shown) ∙ length-risen width heads values
 
-  abbrev pub shown_at : ℕ → Head → Element
+  abbrev pub shown_at : ℕ → OrderedHead → Element
   shown_at i h = headed (h, take width (drop (i * width) values))
 
-  pub is_shown_at : (i : ℕ) (h : Head) (e : Element) → i < length heads → h ≡ get_or heads i h → shown_at i h ≡ get_or es i e
+  pub is_shown_at : (i : ℕ) (h : OrderedHead) (e : Element) → i < length heads → h ≡ get_or heads i h → shown_at i h ≡ get_or es i e
   is_shown_at i h e lt is = sym (ap (λ (xs : List Element). get_or xs i e) (sym shown) ∙ risen-at width i heads values h e lt is)
 
-  pub step_on : (until place next : ℕ) (h : Head) → next < length heads → h ≡ get_or heads next h → instant_of h ≤ until → IsReached until place es next → IsReached until place es (next + 1)
+  pub step_on : (until place next : ℕ) (h : OrderedHead) → next < length heads → h ≡ get_or heads next h → instant_of h ≤ until → IsReached until place es next → IsReached until place es (next + 1)
   step_on until place next h lt is le r =
       let e : Element = shown_at next h in
       reached_more until place es next e (omega (arith, lt, shown_len)) (is_shown_at next h e lt is) le r
 
-  pub step_back : (until place next : ℕ) (h : Head) → next < length heads → h ≡ get_or heads next h → until < instant_of h → IsReached until place es next → IsAllReached until place es next
+  pub step_back : (until place next : ℕ) (h : OrderedHead) → next < length heads → h ≡ get_or heads next h → until < instant_of h → IsReached until place es next → IsAllReached until place es next
   step_back until place next h lt is more r =
       let e : Element = shown_at next h in
       let rising = subst (λ (xs : List Element). Rising (λ g. g.instant) xs) shown risen.rising in
       reached_stop until place es next e rising (omega (arith, lt, shown_len)) (is_shown_at next h e lt is) more r
 
   -- the row at a place
-  pub element_at : (i : ℕ) (h : Head) (t : ℕ) (e : Element) → i < length es → h ≡ get_or heads i h → t ≡ instant_of h → record { arrival = h.number; instant = t; row = take width (drop (i * width) values) } ≡ get_or es i e
+  pub element_at : (i : ℕ) (h : OrderedHead) (t : ℕ) (e : Element) → i < length es → h ≡ get_or heads i h → t ≡ instant_of h → record { arrival = h.number; instant = t; row = take width (drop (i * width) values) } ≡ get_or es i e
   element_at i h t e lt is at =
       ap (λ (k : ℕ). record { arrival = h.number; instant = k; row = take width (drop (i * width) values) }) at
       ∙ is_shown_at i h e (omega (arith, lt, shown_len)) is

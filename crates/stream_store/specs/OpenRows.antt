@@ -5,7 +5,7 @@ use Rattle.std.specs.Prelude.{map, take}
 use Rattle.std.specs.List.{AllByRecursion, range_with_len}
 use Rattle.values.specs.Row.{Row}
 use Rattle.values.specs.Window.{Element}
-use Rattle.stream_store.specs.declared.ordered_rows.Head.{Head}
+use Rattle.stream_store.specs.declared.ordered_rows.OrderedHead.{OrderedHead}
 use Rattle.stream_store.specs.LateRows.{IsFlat, numbered_rows, rows_in}
 use Rattle.stream_store.specs.Open.{Entry, AreWide, after_put, below, elements_at, open_of, placed}
 
@@ -21,25 +21,26 @@ pub record RisenRows : Type 0 where
   pub reached : ℕ
   pub rows : List Element
 
-abbrev pub instant_of : Head → ℕ
+abbrev pub instant_of : OrderedHead → ℕ
 instant_of h = h.high * 4294967296 + h.low
 
 -- what a head says: an instant and a number
-abbrev pub key_of : Head → ℕ × ℕ
+abbrev pub key_of : OrderedHead → ℕ × ℕ
 key_of h = (instant_of h, h.number)
 
 -- so many rows of one instant, with numbers from n on
 abbrev pub keys_from : ℕ → ℕ → ℕ → List (ℕ × ℕ)
 keys_from instant n count = map (λ m. (instant, m)) (range_with_len n count)
 
-abbrev pub headed : Head × Row → Element
+abbrev pub headed : OrderedHead × Row → Element
 headed r = record { arrival = r.0.number; instant = instant_of r.0; row = r.1 }
 
 -- each head with its values
-abbrev pub risen_in : ℕ → List Head → List (Option ℤ) → List Element
+abbrev pub risen_in : ℕ → List OrderedHead → List (Option ℤ) → List Element
 risen_in width heads values = map headed (rows_in width heads values)
 
-pub record IsRisen (width reached : ℕ) (heads : List Head) (values : List (Option ℤ)) : Type 0 where
+pub record IsRisen (width reached : ℕ) (heads : List OrderedHead) (values : List (Option ℤ))
+    : Type 0 where
   pub flat : IsFlat width heads values
   pub rising : Rising (λ e. e.instant) (risen_in width heads values)
   pub within : AllByRecursion (λ (e : Element). e.instant ≤ reached) (risen_in width heads values)

@@ -8,7 +8,7 @@ use group::{Group, GroupBy, work};
 use op_queue::{Item, Queue};
 use std::alloc::{AllocError, Global};
 use std::test::Fail;
-use values::{Column, ListItem, Row};
+use values::{Aggregate, ListItem, Row, SourceColumn};
 
 /// Returns what a turn by excerpt, work and change emits.
 fn turned(
@@ -146,12 +146,12 @@ fn item_at(alloc: Global, sample: Sample, step: usize) -> Result<Item, AllocErro
     }
 }
 
-const KEY: Column = Column {
+const KEY: SourceColumn = SourceColumn {
     source: 0,
     column: 0,
 };
 
-const NUMBER: Column = Column {
+const NUMBER: SourceColumn = SourceColumn {
     source: 0,
     column: 1,
 };
@@ -162,10 +162,10 @@ fn grouped(alloc: Global) -> Result<GroupBy, AllocError> {
     let items = [
         ListItem::Key(0),
         ListItem::CountAll,
-        ListItem::Count(NUMBER),
-        ListItem::Sum(NUMBER),
-        ListItem::Min(NUMBER),
-        ListItem::Max(NUMBER),
+        ListItem::Of(Aggregate::Count, NUMBER),
+        ListItem::Of(Aggregate::Sum, NUMBER),
+        ListItem::Of(Aggregate::Min, NUMBER),
+        ListItem::Of(Aggregate::Max, NUMBER),
     ];
     let items = Vec::from_slice(alloc, &items)?;
     Ok(GroupBy::new(by, items))
@@ -182,9 +182,9 @@ fn counted(alloc: Global) -> Result<GroupBy, AllocError> {
 fn whole(alloc: Global) -> Result<GroupBy, AllocError> {
     let items = [
         ListItem::CountAll,
-        ListItem::Sum(NUMBER),
-        ListItem::Min(NUMBER),
-        ListItem::Max(NUMBER),
+        ListItem::Of(Aggregate::Sum, NUMBER),
+        ListItem::Of(Aggregate::Min, NUMBER),
+        ListItem::Of(Aggregate::Max, NUMBER),
     ];
     let items = Vec::from_slice(alloc, &items)?;
     Ok(GroupBy::new(Vec::new(alloc), items))

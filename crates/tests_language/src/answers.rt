@@ -6,7 +6,7 @@ ghost use Rattle.values.specs.Resolved.{FitsRows};
 use reference::evaluate::evaluate;
 use std::alloc::{AllocError, Global};
 use std::test::Fail;
-use values::{Column, Resolved, Row, Shape, StreamOperator, Value, Window, copy_row};
+use values::{Resolved, Row, Shape, SourceColumn, StreamOperator, Value, Window, copy_row};
 
 /// Returns a row of one number.
 pub(crate) fn row(number: i128) -> Row {
@@ -56,7 +56,7 @@ fn listing_answers(
     let mut windows = Vec::new(alloc);
     windows.push(window)?;
     let mut columns = Vec::new(alloc);
-    columns.push(Column {
+    columns.push(SourceColumn {
         source: 0,
         column: 0,
     })?;

@@ -3,12 +3,12 @@
 use crate::stop::Stop;
 use envelope::Slope;
 use leases::Engine;
-use plan::Kind;
+use plan::NodeKind;
 use reference::{Answering, Fault, Status};
 use std::alloc::{AllocError, Global};
 
 /// Returns the numerator and the denominator of each slope.
-fn slopes_in(alloc: Global, slopes: &[(Kind, Slope)]) -> Result<Vec<u64>, AllocError> {
+fn slopes_in(alloc: Global, slopes: &[(NodeKind, Slope)]) -> Result<Vec<u64>, AllocError> {
     let mut numbers = Vec::new(alloc);
     for (_, slope) in slopes {
         let (numerator, denominator) = slope.parts();

@@ -1,7 +1,7 @@
 //! Answers requests of clients, over any engine.
 
 use crate::turns::add_row;
-use reference::{AnswerRows, Answering, Fault, Kind, Slope, Status};
+use reference::{AnswerRows, Answering, Fault, NodeKind, Slope, Status};
 use std::alloc::{AllocError, Global};
 use std::ops::Deref;
 use values::Row;
@@ -49,7 +49,7 @@ fn shown_status(alloc: Global, status: &Status) -> Result<String, AllocError> {
 }
 
 /// Shows what operators do, each with its slope.
-fn shown_operators(alloc: Global, operators: &[(Kind, Slope)]) -> Result<String, AllocError> {
+fn shown_operators(alloc: Global, operators: &[(NodeKind, Slope)]) -> Result<String, AllocError> {
     let mut text = format!(in alloc; "{} operators", operators.len())?;
     for (kind, slope) in operators {
         write!(text, "; {kind} {slope}")?;

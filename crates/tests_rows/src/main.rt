@@ -7,6 +7,7 @@
 mod calls;
 mod charts;
 mod lists;
+mod places;
 mod plans;
 mod texts;
 mod turns;
@@ -61,6 +62,7 @@ fn answered(
         "plan" => plans::planned(alloc, rest)?,
         "stream" => plans::found_stream(alloc, rest)?,
         "columns" => plans::named_columns(alloc, rest)?,
+        "at" => places::placed(alloc, rest)?,
         "points" => charts::sloped(alloc, rest)?,
         "slopes" => charts::compared(alloc, rest)?,
         "list" => lists::listed(alloc, list, rest)?,

@@ -4,7 +4,7 @@ ghost use Rattle.std.specs.List.{AllByRecursion};
 
 use crate::texts::add_name;
 use cql_reader::{Name, read};
-use names::{Catalog, Key as NamedKey, Named, ResolveError, resolve};
+use names::{Catalog, Named, ResolveError, SourceKey, resolve};
 use plan::{Key, Node, Plan};
 use reference::{Fault, are_columns, find_plan, names_of};
 use std::alloc::{AllocError, Global};
@@ -31,7 +31,7 @@ fn add_numbers(text: &mut String, numbers: &[usize]) -> Result<(), AllocError> {
 }
 
 /// Adds the keys that join a source with those before it.
-fn add_keys(text: &mut String, keys: &[NamedKey]) -> Result<(), AllocError> {
+fn add_keys(text: &mut String, keys: &[SourceKey]) -> Result<(), AllocError> {
     for key in keys {
         let (source, column) = (key.earlier.source, key.earlier.column);
         write!(text, " {source}.{column} = {}", key.column)?;

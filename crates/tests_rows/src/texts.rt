@@ -1,10 +1,11 @@
 //! Shows what the texts of queries say, written out in full.
 
 use cql_reader::{
-    Condition, Entries, Entry, Name, Operand, Query, Reference, Source, Window, is_name, read,
+    Entries, Name, Query, Reference, WrittenCondition, WrittenEntry, WrittenOperand, WrittenSource,
+    WrittenWindow, is_name, read,
 };
 use std::alloc::{AllocError, Global};
-use values::Compare;
+use values::{Aggregate, Compare};
 
 pub(crate) fn add_name(text: &mut String, name: &Name) -> Result<(), AllocError> {
     for byte in name.as_bytes() {
@@ -37,14 +38,20 @@ fn add_call(text: &mut String, name: &str, reference: &Reference) -> Result<(), 
     text.push_str(")")
 }
 
-fn add_entry(text: &mut String, entry: &Entry) -> Result<(), AllocError> {
+fn add_entry(text: &mut String, entry: &WrittenEntry) -> Result<(), AllocError> {
     match entry {
-        Entry::Column(column) => add_reference(text, column),
-        Entry::CountAll => text.push_str("Count(*)"),
-        Entry::Count(column) => add_call(text, "Count", column),
-        Entry::Sum(column) => add_call(text, "Sum", column),
-        Entry::Min(column) => add_call(text, "Min", column),
-        Entry::Max(column) => add_call(text, "Max", column),
+        WrittenEntry::Column(column) => add_reference(text, column),
+        WrittenEntry::CountAll => text.push_str("Count(*)"),
+        WrittenEntry::Of(aggregate, column) => add_call(text, aggregate_name(*aggregate), column),
+    }
+}
+
+fn aggregate_name(aggregate: Aggregate) -> &'static str {
+    match aggregate {
+        Aggregate::Count => "Count",
+        Aggregate::Sum => "Sum",
+        Aggregate::Min => "Min",
+        Aggregate::Max => "Max",
     }
 }
 
@@ -61,14 +68,17 @@ fn add_entries(text: &mut String, entries: &Entries) -> Result<(), AllocError> {
     Ok(())
 }
 
-fn add_window(text: &mut String, window: &Window) -> Result<(), AllocError> {
+fn add_window(text: &mut String, window: &WrittenWindow) -> Result<(), AllocError> {
     match window {
-        Window::Now => text.push_str("[Now]"),
-        Window::Range(instants) => write!(text, "[Range {instants}]"),
-        Window::RangeSlide(instants, step) => write!(text, "[Range {instants} Slide {step}]"),
-        Window::Unbounded => text.push_str("[Range Unbounded]"),
-        Window::Rows(rows) => write!(text, "[Rows {rows}]"),
-        Window::Partition(by, rows) => {
+        WrittenWindow::Now => text.push_str("[Now]"),
+        WrittenWindow::Range(instants) => write!(text, "[Range {instants}]"),
+        WrittenWindow::RangeSlide(instants, step) => write!(
+            text,
+            "[Range {instants} Slide {step}]"
+        ),
+        WrittenWindow::Unbounded => text.push_str("[Range Unbounded]"),
+        WrittenWindow::Rows(rows) => write!(text, "[Rows {rows}]"),
+        WrittenWindow::Partition(by, rows) => {
             text.push_str("[Partition By ")?;
             add_references(text, by)?;
             write!(text, " Rows {rows}]")
@@ -76,7 +86,7 @@ fn add_window(text: &mut String, window: &Window) -> Result<(), AllocError> {
     }
 }
 
-fn add_source(text: &mut String, source: &Source) -> Result<(), AllocError> {
+fn add_source(text: &mut String, source: &WrittenSource) -> Result<(), AllocError> {
     add_name(text, &source.stream)?;
     text.push_str(" ")?;
     add_window(text, &source.window)?;
@@ -87,7 +97,7 @@ fn add_source(text: &mut String, source: &Source) -> Result<(), AllocError> {
     Ok(())
 }
 
-fn add_sources(text: &mut String, sources: &[Source]) -> Result<(), AllocError> {
+fn add_sources(text: &mut String, sources: &[WrittenSource]) -> Result<(), AllocError> {
     let mut between = "";
     for source in sources {
         text.push_str(between)?;
@@ -97,10 +107,10 @@ fn add_sources(text: &mut String, sources: &[Source]) -> Result<(), AllocError> 
     Ok(())
 }
 
-fn add_operand(text: &mut String, operand: &Operand) -> Result<(), AllocError> {
+fn add_operand(text: &mut String, operand: &WrittenOperand) -> Result<(), AllocError> {
     match operand {
-        Operand::Column(column) => add_reference(text, column),
-        Operand::Number(number) => write!(text, "{number}"),
+        WrittenOperand::Column(column) => add_reference(text, column),
+        WrittenOperand::Number(number) => write!(text, "{number}"),
     }
 }
 
@@ -116,24 +126,24 @@ fn sign(compare: Compare) -> &'static str {
 }
 
 /// Adds a condition with parentheses round each part of it.
-fn add_condition(text: &mut String, condition: &Condition) -> Result<(), AllocError> {
+fn add_condition(text: &mut String, condition: &WrittenCondition) -> Result<(), AllocError> {
     text.push_str("(")?;
     match condition {
-        Condition::Compared(left, how, right) => {
+        WrittenCondition::Compared(left, how, right) => {
             add_operand(text, left)?;
             text.push_str(sign(*how))?;
             add_operand(text, right)?;
         }
-        Condition::Not(inner) => {
+        WrittenCondition::Not(inner) => {
             text.push_str("Not ")?;
             add_condition(text, inner)?;
         }
-        Condition::And(first, second) => {
+        WrittenCondition::And(first, second) => {
             add_condition(text, first)?;
             text.push_str(" And ")?;
             add_condition(text, second)?;
         }
-        Condition::Or(first, second) => {
+        WrittenCondition::Or(first, second) => {
             add_condition(text, first)?;
             text.push_str(" Or ")?;
             add_condition(text, second)?;

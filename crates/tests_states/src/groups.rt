@@ -8,7 +8,7 @@ use group::{Group, GroupBy, work};
 use op_queue::Item as Queued;
 use std::alloc::{AllocError, Global};
 use std::test::Fail;
-use values::{Column, ListItem, Value};
+use values::{Aggregate, ListItem, SourceColumn, Value};
 
 /// Is three signed rows of an instant, each a sign, a key and a number; or the tick of the instant.
 type Plain = (u64, Option<[(bool, i64, i64); 3]>);
@@ -108,12 +108,12 @@ fn puts_out(
     Ok(outputs.len() == count && numbers.as_slice() == rows)
 }
 
-const KEY: Column = Column {
+const KEY: SourceColumn = SourceColumn {
     source: 0,
     column: 0,
 };
 
-const NUMBER: Column = Column {
+const NUMBER: SourceColumn = SourceColumn {
     source: 0,
     column: 1,
 };
@@ -123,8 +123,8 @@ fn extremes(alloc: Global) -> Result<GroupBy, AllocError> {
     let by = Vec::from_slice(alloc, &[KEY])?;
     let items = [
         ListItem::Key(0),
-        ListItem::Min(NUMBER),
-        ListItem::Max(NUMBER),
+        ListItem::Of(Aggregate::Min, NUMBER),
+        ListItem::Of(Aggregate::Max, NUMBER),
     ];
     let items = Vec::from_slice(alloc, &items)?;
     Ok(GroupBy::new(by, items))
@@ -147,8 +147,8 @@ fn extremes_put_out(
 fn totals(alloc: Global) -> Result<GroupBy, AllocError> {
     let items = [
         ListItem::CountAll,
-        ListItem::Count(NUMBER),
-        ListItem::Sum(NUMBER),
+        ListItem::Of(Aggregate::Count, NUMBER),
+        ListItem::Of(Aggregate::Sum, NUMBER),
     ];
     let items = Vec::from_slice(alloc, &items)?;
     Ok(GroupBy::new(Vec::new(alloc), items))

@@ -9,7 +9,7 @@ use op_queue::Item;
 use row_nodes::{project, select, steps};
 use std::alloc::{AllocError, Global};
 use std::test::Fail;
-use values::{Column, Compare, Condition, Operand};
+use values::{Compare, Condition, Operand, SourceColumn};
 
 /// Makes the rows (7, 70) and (null, 80), which enter, and (9, 90), which leaves.
 fn three(alloc: Global) -> Result<Batch, AllocError>
@@ -93,7 +93,7 @@ fn columns_go_by_the_list(rt: HostRuntime) -> Result<(), Fail> {
 
 /// Makes the steps of `Not (5 < a)`.
 fn turned_steps(alloc: Global) -> Result<Vec<Step>, AllocError> {
-    let a = Operand::Field(Column {
+    let a = Operand::Field(SourceColumn {
         source: 0,
         column: 0,
     });

@@ -93,6 +93,17 @@ fn rows_are_shown_at_multiples_alone(rt: HostRuntime) -> Result<(), Fail> {
     Ok(())
 }
 
+#[test]
+fn a_window_stays_to_a_multiple_or_while_all_rows_are_shown(rt: HostRuntime) -> Result<(), Fail> {
+    let waiting = slide_window(rt.alloc())?;
+    assert_eq!(rt; waiting.stays_until(1), 2);
+    assert_eq!(rt; waiting.stays_until(2), 2);
+    let empty = SlideWindow::new(rt.alloc(), 1, 2, 1);
+    assert_eq!(rt; empty.stays_until(3), u64::MAX);
+    assert_eq!(rt; empty.stays_until(4), u64::MAX);
+    Ok(())
+}
+
 /// Returns what the window of the last row emits for an item.
 fn latest(alloc: Global, window: &LatestWindow, item: &Item) -> Result<Vec<Item>, AllocError>
     requires { IsItemWide window.now.width item.now }

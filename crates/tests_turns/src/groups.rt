@@ -7,12 +7,12 @@ use column::Side;
 use group::{Group, GroupBy, work};
 use op_queue::Item as Queued;
 use std::alloc::{AllocError, Global};
-use turn::{Kind, Near};
-use values::{Column, ListItem};
+use turn::{Excerpt, Kind};
+use values::{ListItem, SourceColumn};
 
 /// Makes `Select k, ITEM From S Group By k` for the column `k`.
 fn listed(alloc: Global, column: usize, item: ListItem) -> Result<GroupBy, AllocError> {
-    let by = Vec::from_slice(alloc, &[Column { source: 0, column }])?;
+    let by = Vec::from_slice(alloc, &[SourceColumn { source: 0, column }])?;
     let items = Vec::from_slice(alloc, &[ListItem::Key(0), item])?;
     Ok(GroupBy::new(by, items))
 }
@@ -41,9 +41,9 @@ fn filled(alloc: Global, number: i64) -> Result<Group, AllocError> {
 }
 
 /// Returns what a tick of these groups needs.
-fn touched(alloc: Global, number: i64) -> Result<Near, AllocError> {
+fn touched(alloc: Global, number: i64) -> Result<Excerpt, AllocError> {
     let group = filled(alloc, number)?;
-    Ok(Near::Groups(group.near(alloc, &Queued::Tick(4))?))
+    Ok(Excerpt::Groups(group.near(alloc, &Queued::Tick(4))?))
 }
 
 /// Returns whether the node that counts by the first column is the same as one with this column and

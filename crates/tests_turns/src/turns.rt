@@ -9,9 +9,11 @@ use op_queue::Item;
 use std::alloc::{AllocError, Global};
 use std::sync::Arc;
 use to_stream::ToStream;
-use turn::{ColumnList, Done, Kind, Near, Node, Parts, SharedItem, SharedNear, Turn, same_item};
+use turn::{
+    ColumnList, Done, Excerpt, Kind, Parts, SharedExcerpt, SharedItem, Turn, TurnNode, same_item,
+};
 use values::{Row, StreamOperator, Value};
-use windows::{RowTable, SlideNear};
+use windows::{RowTable, SlideExcerpt};
 
 fn row(number: i64) -> Row
     ensures { length result.items ≡ 1 }
@@ -42,11 +44,11 @@ pub(crate) fn two(alloc: Global, first: i64, second: i64) -> Result<Batch, Alloc
 }
 
 /// Makes the operator 3 of the query 2.
-pub(crate) fn node(alloc: Global, side: Side, kind: Kind) -> Result<Node, AllocError>
+pub(crate) fn node(alloc: Global, side: Side, kind: Kind) -> Result<TurnNode, AllocError>
     ensures { IfOk result (λ n. n.kind ≡ kind) }
 {
     let kind = Arc::new(alloc, kind)?;
-    Ok(Node {
+    Ok(TurnNode {
         query: 2,
         operator: 3,
         side,
@@ -62,14 +64,14 @@ fn sent<T: Send>(value: T) -> T
 }
 
 /// Makes the turn of the lease 9 and runs it as if in another thread.
-fn run(alloc: Global, node: Node, item: Item, near: Near) -> Result<Done, AllocError>
+fn run(alloc: Global, node: TurnNode, item: Item, near: Excerpt) -> Result<Done, AllocError>
     requires { Fits node item near }
 {
     let turn = sent(Turn {
         lease: 9,
         node,
         item: SharedItem::new(alloc, item)?,
-        near: SharedNear::new(alloc, near)?,
+        near: SharedExcerpt::new(alloc, near)?,
     });
     match turn.run(alloc) {
         Ok(done) => Ok(sent(done)),
@@ -83,7 +85,7 @@ fn listed(alloc: Global) -> Result<Done, AllocError> {
     let columns = ColumnList::new(columns);
     let node = node(alloc, Side::Left, Kind::Project(columns))?;
     let batch = two(alloc, 7, 8)?;
-    run(alloc, node, Item::Rows(4, batch), Near::Nothing)
+    run(alloc, node, Item::Rows(4, batch), Excerpt::Nothing)
 }
 
 /// Adds the lease, the query and the operator of a turn's parts, and the columns that it lists.
@@ -149,10 +151,10 @@ fn add_nodes(alloc: Global, text: &mut String) -> Result<(), AllocError> {
 }
 
 /// Makes the excerpt of a window that moves at multiples, where one row passes without being shown.
-fn passing(alloc: Global, number: i64) -> Result<Near, AllocError> {
+fn passing(alloc: Global, number: i64) -> Result<Excerpt, AllocError> {
     let mut values = Vec::new(alloc);
     values.push(Value::clamped(number as i128))?;
-    Ok(Near::Sliding(SlideNear {
+    Ok(Excerpt::Sliding(SlideExcerpt {
         leave: RowTable::new(alloc),
         pass: RowTable::of(1, 1, values),
         enter: RowTable::new(alloc),
@@ -168,13 +170,13 @@ fn is_same_passing(alloc: Global, number: i64) -> Result<bool, AllocError> {
 }
 
 /// Makes the excerpt of a root to which one row came.
-fn entered(alloc: Global, number: i64) -> Result<Near, AllocError> {
+fn entered(alloc: Global, number: i64) -> Result<Excerpt, AllocError> {
     let batch = Batch::from_rows(alloc, &[entering(number)])?;
     let _few = batch.len(); // for the proof
     let mut root = ToStream::new(alloc, StreamOperator::Istream);
     root.apply(&Item::Rows(1, batch))?;
     let lists = root.near(alloc, &Item::Tick(1))?;
-    Ok(Near::Lists(lists))
+    Ok(Excerpt::Lists(lists))
 }
 
 /// Returns whether the excerpt of the row 5 is the same as that of another row.

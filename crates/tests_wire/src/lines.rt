@@ -319,9 +319,9 @@ fn writes_of(alloc: Global, count: u16) -> Result<Option<u64>, AllocError> {
 }
 
 #[test]
-fn a_line_of_16384_bytes_is_one_write(rt: HostRuntime) -> Result<(), Fail> {
-    assert_eq!(rt; writes_of(rt.alloc(), 900)?, Some(1));
-    assert_eq!(rt; writes_of(rt.alloc(), 1_800)?, Some(2));
+fn a_line_of_65536_bytes_is_one_write(rt: HostRuntime) -> Result<(), Fail> {
+    assert_eq!(rt; writes_of(rt.alloc(), 3_600)?, Some(1));
+    assert_eq!(rt; writes_of(rt.alloc(), 7_200)?, Some(2));
     Ok(())
 }
 

@@ -178,7 +178,8 @@ fn no_request_is_read_or_carried_out_behind_a_write_that_fails(rt: HostRuntime) 
     assert!(rt; !goes_on_behind(rt.alloc(), 6));
 }
 
-// Makes a script of a stream, of heartbeats at the instants below this one, and of a query.
+// Makes a script of a stream, of heartbeats at the instants below this one, each followed by a
+// status, and of a query.
 fn heartbeats(alloc: Global, until: u64) -> Result<String, AllocError> {
     let mut script = String::from_str(
         alloc,
@@ -187,6 +188,7 @@ fn heartbeats(alloc: Global, until: u64) -> Result<String, AllocError> {
     for at in 0..until {
         let line = format!(in alloc; "{{\"op\":\"heartbeat\",\"stream\":\"S\",\"at\":{at}}}\n")?;
         script.push_str(line.as_str())?;
+        script.push_str("{\"op\":\"status\"}\n")?;
     }
     script.push_str(
         "{\"op\":\"query\",\"name\":\"q\",\"text\":\"Select Istream(*) From S [Now]\"}\n",
@@ -194,10 +196,11 @@ fn heartbeats(alloc: Global, until: u64) -> Result<String, AllocError> {
     Ok(script)
 }
 
-// Returns whether a script that is read at once ends where a first write has to come. In 16,384
-// bytes, 1,365 replies of 12 bytes may be held; the reply to the heartbeat at 1,364 is one more.
+// Returns whether a script that is read at once ends where a first write has to come. A heartbeat
+// has a reply of 12 bytes, and a status one of 85 and the digits of the instant. Of 65,536 bytes
+// these take 65,514 up to the reply to the heartbeat at 656, and its status would take 88 more.
 fn ends_at_a_full_page(alloc: Global) -> Result<bool, AllocError> {
-    let script = heartbeats(alloc, 1_500)?;
+    let script = heartbeats(alloc, 700)?;
     let Ok(mut engine) = Plain::new(alloc) else {
         return Ok(false);
     };
@@ -208,8 +211,8 @@ fn ends_at_a_full_page(alloc: Global) -> Result<bool, AllocError> {
     Ok(
         matches!(ended, Err(ScriptFault::Write))
             && engine.query_named("q").is_none()
-            && engine.heartbeat(0, 1_364) == Err(Fault::Backward)
-            && engine.heartbeat(0, 1_365).is_ok(),
+            && engine.heartbeat(0, 656) == Err(Fault::Backward)
+            && engine.heartbeat(0, 657).is_ok(),
     )
 }
 

@@ -18,7 +18,7 @@ pub record State : Type 0 where
 
 -- what a turn needs of the state: what is asked, what entered and left, and of Rstream the relation
 -- of the last tick
-pub record Excerpt : Type 0 where
+pub record RootExcerpt : Type 0 where
   pub operator : StreamOperator
   pub delta : PlainDelta
   pub whole : List Row
@@ -30,12 +30,12 @@ shown Dstream delta whole = delta.left
 shown Rstream delta whole = renewed whole delta
 
 -- the excerpt
-abbrev pub near : State → Item → Excerpt
+abbrev pub near : State → Item → RootExcerpt
 near s (Rows t b) = record { operator = s.operator; delta = delta_of [] []; whole = [] }
 near s (Tick t) = record { operator = s.operator; delta = s.delta; whole = s.whole }
 
 -- the answers
-abbrev pub out : Item → Excerpt → List (ℕ × Row)
+abbrev pub out : Item → RootExcerpt → List (ℕ × Row)
 out (Rows t b) n = []
 out (Tick t) n = map (λ r. (t, r)) (shown n.operator n.delta n.whole)
 

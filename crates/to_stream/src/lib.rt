@@ -28,7 +28,7 @@ use values::StreamOperator;
 /// Is the excerpt of a turn. At a tick it has what entered and left since the last one, and for
 /// Rstream the relation at the last one. It has no rows if the item is rows.
 #[derive(Drop)]
-pub struct Near {
+pub struct RootExcerpt {
     /// Says whether Istream, Dstream or Rstream answers.
     operator: StreamOperator,
     /// Holds what entered and left since the last tick.
@@ -37,20 +37,20 @@ pub struct Near {
     whole: RowList,
 }
 
-impl Model for Near {
-    ghost use Rattle.to_stream.specs.Turns.{Excerpt};
+impl Model for RootExcerpt {
+    ghost use Rattle.to_stream.specs.Turns.{RootExcerpt as PlainExcerpt};
 
-    ghost Value = { Excerpt };
+    ghost Value = { PlainExcerpt };
 
     ghost view = { λ n. record { operator = n.operator; delta = n.delta; whole = n.whole } };
 }
 
-impl Near {
+impl RootExcerpt {
     /// Returns whether the excerpts are equal: of one operator, with the same rows. Takes no
     /// memory.
     ///
     /// It costs one look at each row if the rows of both came in the same order.
-    pub fn is_same(&self, other: &Near) -> bool
+    pub fn is_same(&self, other: &RootExcerpt) -> bool
         ensures { IsTrue result ↔ (self.now ≡ other.now) }
     {
         if self.operator != other.operator {
@@ -147,11 +147,11 @@ impl ToStream {
     ///
     /// # Errors
     /// `AllocError` when out of memory; then nothing has changed.
-    pub fn near(&self, alloc: Global, item: &Item) -> Result<Near, AllocError>
+    pub fn near(&self, alloc: Global, item: &Item) -> Result<RootExcerpt, AllocError>
         ensures { IfOk result (λ excerpt. excerpt ≡ near self.now item.now) }
     {
         match item {
-            Item::Rows(_, _) => Ok(Near {
+            Item::Rows(_, _) => Ok(RootExcerpt {
                 operator: self.operator,
                 delta: Delta::new(alloc),
                 whole: RowList::new(alloc),
@@ -159,7 +159,7 @@ impl ToStream {
             Item::Tick(_) => {
                 let delta = self.delta.copy(alloc)?;
                 let whole = self.whole.copy(alloc)?;
-                Ok(Near {
+                Ok(RootExcerpt {
                     operator: self.operator,
                     delta,
                     whole,
@@ -314,7 +314,7 @@ impl ToStream {
 ///
 /// # Errors
 /// `AllocError` when out of memory; then nothing has changed.
-pub fn work(alloc: Global, item: &Item, near: &Near) -> Result<DatedRows, AllocError>
+pub fn work(alloc: Global, item: &Item, near: &RootExcerpt) -> Result<DatedRows, AllocError>
     ensures { IfOk result (λ answers. answers ≡ out item.now near.now) }
 {
     let mut answers = DatedRows::new(alloc);

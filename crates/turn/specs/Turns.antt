@@ -18,8 +18,8 @@ use Rattle.windows.specs.Range as range
 use Rattle.windows.specs.Slide as slide
 use Rattle.windows.specs.Widths.{HaveOneWidthAll}
 use Rattle.turn.specs.Nodes.{PlainNode}
-use Rattle.turn.specs.declared.excerpts.Near.{Near}
-use Rattle.turn.specs.declared.excerpts.Near.TheVariants as near
+use Rattle.turn.specs.declared.excerpts.Excerpt.{Excerpt}
+use Rattle.turn.specs.declared.excerpts.Excerpt.TheVariants as near
 use Rattle.turn.specs.declared.kinds.Kind.{Kind}
 use Rattle.turn.specs.declared.kinds.Kind.TheVariants.{RangeWindow, SlideWindow, LatestWindow}
 use Rattle.turn.specs.declared.kinds.Kind.TheVariants.{Select, Project, Join, Group, ToStream}
@@ -39,39 +39,39 @@ outs_in (Answers answers) = Answered answers
 
 -- THE EXCERPT FITS THE NODE AND THE ITEM
 
-abbrev pub FitsRange : Near → Type 0
+abbrev pub FitsRange : Excerpt → Type 0
 FitsRange (near.Leaving rows) = HaveOneWidthAll rows
 FitsRange n = ⊥
 
-abbrev pub FitsSlide : Near → Type 0
+abbrev pub FitsSlide : Excerpt → Type 0
 FitsSlide (near.Sliding rows) = slide.HaveOneWidthIn rows
 FitsSlide n = ⊥
 
-abbrev pub FitsLatest : Item → Near → Type 0
+abbrev pub FitsLatest : Item → Excerpt → Type 0
 FitsLatest i (near.Fallen rows) = latest.FallenFit i rows
 FitsLatest i n = ⊥
 
-abbrev pub FitsSelect : List Step → Item → Near → Type 0
+abbrev pub FitsSelect : List Step → Item → Excerpt → Type 0
 FitsSelect steps i near.Nothing = FitItem steps i
 FitsSelect steps i n = ⊥
 
-abbrev pub FitsProject : List ℕ → Item → Near → Type 0
+abbrev pub FitsProject : List ℕ → Item → Excerpt → Type 0
 FitsProject columns i near.Nothing = AreColumns columns i
 FitsProject columns i n = ⊥
 
-abbrev pub FitsJoin : Item → Near → Type 0
+abbrev pub FitsJoin : Item → Excerpt → Type 0
 FitsJoin i (near.Met excerpt) = join.Fits i excerpt
 FitsJoin i n = ⊥
 
-abbrev pub FitsGroup : Near → Type 0
+abbrev pub FitsGroup : Excerpt → Type 0
 FitsGroup (near.Groups groups) = Unit {0}
 FitsGroup n = ⊥
 
-abbrev pub FitsRoot : Near → Type 0
+abbrev pub FitsRoot : Excerpt → Type 0
 FitsRoot (near.Lists lists) = Unit {0}
 FitsRoot n = ⊥
 
-abbrev pub FitsKind : Kind → Side → Item → Near → Type 0
+abbrev pub FitsKind : Kind → Side → Item → Excerpt → Type 0
 FitsKind RangeWindow side i n = FitsRange n
 FitsKind SlideWindow side i n = FitsSlide n
 FitsKind LatestWindow side i n = FitsLatest i n
@@ -82,44 +82,44 @@ FitsKind (Group g) side i n = FitsGroup n
 FitsKind ToStream side i n = FitsRoot n
 
 -- the item has the columns, and the excerpt the kind and the columns, that the node asks for
-abbrev pub Fits : PlainNode → Item → Near → Type 0
+abbrev pub Fits : PlainNode → Item → Excerpt → Type 0
 Fits node i n = FitsKind node.kind node.side i n
 
 -- THE OUTPUTS; an excerpt of another kind gives none
 
-abbrev pub range_outs : Item → Near → Outs
+abbrev pub range_outs : Item → Excerpt → Outs
 range_outs i (near.Leaving rows) = Put (range.out i rows)
 range_outs i n = Put []
 
-abbrev pub slide_outs : Item → Near → Outs
+abbrev pub slide_outs : Item → Excerpt → Outs
 slide_outs i (near.Sliding rows) = Put (slide.out i rows)
 slide_outs i n = Put []
 
-abbrev pub latest_outs : Item → Near → Outs
+abbrev pub latest_outs : Item → Excerpt → Outs
 latest_outs i (near.Fallen rows) = Put (latest.out i rows)
 latest_outs i n = Put []
 
-abbrev pub select_outs : List Step → Item → Near → Outs
+abbrev pub select_outs : List Step → Item → Excerpt → Outs
 select_outs steps i near.Nothing = Put (selected steps i)
 select_outs steps i n = Put []
 
-abbrev pub project_outs : List ℕ → Item → Near → Outs
+abbrev pub project_outs : List ℕ → Item → Excerpt → Outs
 project_outs columns i near.Nothing = Put (projected columns i)
 project_outs columns i n = Put []
 
-abbrev pub join_outs : Side → Item → Near → Outs
+abbrev pub join_outs : Side → Item → Excerpt → Outs
 join_outs side i (near.Met excerpt) = Put (join.out side i excerpt)
 join_outs side i n = Put []
 
-abbrev pub group_outs : GroupBy → Item → Near → Outs
+abbrev pub group_outs : GroupBy → Item → Excerpt → Outs
 group_outs g i (near.Groups groups) = Put (group.out g i groups)
 group_outs g i n = Put []
 
-abbrev pub root_outs : Item → Near → Outs
+abbrev pub root_outs : Item → Excerpt → Outs
 root_outs i (near.Lists lists) = Answered (root.out i lists)
 root_outs i n = Answered []
 
-abbrev pub outs_at : Kind → Side → Item → Near → Outs
+abbrev pub outs_at : Kind → Side → Item → Excerpt → Outs
 outs_at RangeWindow side i n = range_outs i n
 outs_at SlideWindow side i n = slide_outs i n
 outs_at LatestWindow side i n = latest_outs i n
@@ -129,20 +129,20 @@ outs_at Join side i n = join_outs side i n
 outs_at (Group g) side i n = group_outs g i n
 outs_at ToStream side i n = root_outs i n
 
-abbrev pub outs_of : PlainNode → Item → Near → Outs
+abbrev pub outs_of : PlainNode → Item → Excerpt → Outs
 outs_of node i n = outs_at node.kind node.side i n
 
 -- THE CHANGE: how many rows leave a window of instants, what groups show; else the item says all
 
-abbrev pub range_change : Item → Near → Change
+abbrev pub range_change : Item → Excerpt → Change
 range_change i (near.Leaving rows) = change.Leave (range.change i rows)
 range_change i n = change.Nothing
 
-abbrev pub group_change : GroupBy → Item → Near → Change
+abbrev pub group_change : GroupBy → Item → Excerpt → Change
 group_change g i (near.Groups groups) = change.Groups (group.change g i groups)
 group_change g i n = change.Nothing
 
-abbrev pub change_at : Kind → Item → Near → Change
+abbrev pub change_at : Kind → Item → Excerpt → Change
 change_at RangeWindow i n = range_change i n
 change_at SlideWindow i n = change.Nothing
 change_at LatestWindow i n = change.Nothing
@@ -152,5 +152,5 @@ change_at Join i n = change.Nothing
 change_at (Group g) i n = group_change g i n
 change_at ToStream i n = change.Nothing
 
-abbrev pub change_of : PlainNode → Item → Near → Change
+abbrev pub change_of : PlainNode → Item → Excerpt → Change
 change_of node i n = change_at node.kind i n

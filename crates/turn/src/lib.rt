@@ -15,11 +15,11 @@ mod shared;
 mod turns;
 mod works;
 
-pub use excerpts::{MetRows, Near};
+pub use excerpts::{Excerpt, MetRows};
 pub use kinds::{ColumnList, Kind, StepList};
-pub use nodes::Node;
+pub use nodes::TurnNode;
 pub use outcomes::{Change, Outputs};
 pub use parts::Parts;
 pub use same_items::same_item;
-pub use shared::{SharedItem, SharedNear};
+pub use shared::{SharedExcerpt, SharedItem};
 pub use turns::{Done, Turn};

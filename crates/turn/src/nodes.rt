@@ -11,7 +11,7 @@ use std::sync::Arc;
 ///
 /// What the operator does is shared with the plan, so a node copies nothing of it.
 #[derive(Drop)]
-pub struct Node {
+pub struct TurnNode {
     /// Holds the number of the query.
     pub query: u64,
     /// Holds the number of the operator in the query's plan.
@@ -22,7 +22,7 @@ pub struct Node {
     pub kind: Arc<Kind>,
 }
 
-impl Model for Node {
+impl Model for TurnNode {
     ghost use Rattle.std.specs.Arc.{arc_value};
     ghost use Rattle.turn.specs.Nodes.{PlainNode};
 
@@ -32,15 +32,15 @@ impl Model for Node {
         record { query = n.query; operator = n.operator; side = n.side; kind = arc_value n.kind } };
 }
 
-impl Node {
+impl TurnNode {
     /// Returns the same node once more. Takes no memory.
     ///
     /// # Errors
     /// `AllocError` when no more owners can be counted; nothing has changed.
-    pub(crate) fn share(&self) -> Result<Node, AllocError>
+    pub(crate) fn share(&self) -> Result<TurnNode, AllocError>
         ensures { IfOk result (λ node. node ≡ self.now) }
     {
-        Ok(Node {
+        Ok(TurnNode {
             query: self.query,
             operator: self.operator,
             side: self.side,
@@ -50,7 +50,7 @@ impl Node {
 
     /// Returns whether the nodes are equal: the same operator of the same query, the same side, and
     /// the same kind with all that it carries.
-    pub fn is_same(&self, other: &Node) -> bool
+    pub fn is_same(&self, other: &TurnNode) -> bool
         ensures { IsTrue result ↔ (self.now ≡ other.now) }
     {
         self.query == other.query

@@ -20,5 +20,5 @@ pub enum Change {
     /// Counts the rows that leave the front of a window of the last instants.
     Leave(usize),
     /// Holds what the touched groups show.
-    Groups(group::Change),
+    Groups(group::GroupChange),
 }

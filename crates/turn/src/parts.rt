@@ -1,8 +1,8 @@
 //! The parts of a turn that was run.
 
-use crate::nodes::Node;
+use crate::nodes::TurnNode;
 use crate::outcomes::{Change, Outputs};
-use crate::shared::{SharedItem, SharedNear};
+use crate::shared::{SharedExcerpt, SharedItem};
 
 /// Holds the four parts of a turn, its outputs and its change.
 #[derive(Drop)]
@@ -10,11 +10,11 @@ pub struct Parts {
     /// Holds the number of the lease.
     pub lease: u64,
     /// Names the operator, and at a join the side that the item is of.
-    pub node: Node,
+    pub node: TurnNode,
     /// Holds the item of the operator's queue.
     pub item: SharedItem,
     /// Holds the excerpt of the operator's state.
-    pub near: SharedNear,
+    pub near: SharedExcerpt,
     /// Holds what the turn emits.
     pub outputs: Outputs,
     /// Holds what the turn changes of the operator's state.

@@ -1,7 +1,7 @@
 //! What a turn shares with the copy of it that its engine keeps.
 ghost use Rattle.std.specs.Prelude.{◌≡◌, IfOk};
 
-use crate::excerpts::Near;
+use crate::excerpts::Excerpt;
 use op_queue::Item;
 use std::alloc::{AllocError, Global};
 use std::marker::Model;
@@ -56,45 +56,45 @@ impl SharedItem {
 
 /// Holds an excerpt of an operator's state, which the copies of a turn share.
 #[derive(Drop)]
-pub struct SharedNear {
+pub struct SharedExcerpt {
     /// Holds the excerpt, with the count of its owners.
-    near: Arc<Near>,
+    near: Arc<Excerpt>,
 }
 
-impl Model for SharedNear {
+impl Model for SharedExcerpt {
     ghost use Rattle.std.specs.Arc.{arc_value};
-    ghost use Rattle.turn.specs.declared.excerpts.Near.{Near as PlainNear};
+    ghost use Rattle.turn.specs.declared.excerpts.Excerpt.{Excerpt as PlainExcerpt};
 
-    ghost Value = { PlainNear };
+    ghost Value = { PlainExcerpt };
 
     ghost view = { λ s. arc_value s.near };
 }
 
-impl SharedNear {
+impl SharedExcerpt {
     /// Makes an excerpt that one turn has.
     ///
     /// # Errors
     /// `AllocError` when out of memory; then the excerpt is dropped.
-    pub fn new(alloc: Global, near: Near) -> Result<SharedNear, AllocError>
+    pub fn new(alloc: Global, near: Excerpt) -> Result<SharedExcerpt, AllocError>
         ensures { IfOk result (λ shared. shared ≡ near) }
     {
         let near = Arc::new(alloc, near)?;
-        Ok(SharedNear { near })
+        Ok(SharedExcerpt { near })
     }
 
     /// Returns the same excerpt once more. Takes no memory.
     ///
     /// # Errors
     /// `AllocError` when no more owners can be counted; nothing has changed.
-    pub(crate) fn share(&self) -> Result<SharedNear, AllocError>
+    pub(crate) fn share(&self) -> Result<SharedExcerpt, AllocError>
         ensures { IfOk result (λ shared. shared ≡ self.now) }
     {
         let near = Arc::try_clone(&self.near)?;
-        Ok(SharedNear { near })
+        Ok(SharedExcerpt { near })
     }
 
     /// Returns the excerpt.
-    pub fn near(&self) -> &Near
+    pub fn near(&self) -> &Excerpt
         ensures { result.now ≡ self.now }
     {
         &self.near

@@ -3,9 +3,9 @@ ghost use Rattle.std.specs.Prelude.{◌≡◌, IfOk, IfErr};
 ghost use Rattle.turn.specs.Turns.{Fits};
 ghost use Rattle.turn.specs.Finished.{IsDone, IsOf};
 
-use crate::nodes::Node;
+use crate::nodes::TurnNode;
 use crate::parts::Parts;
-use crate::shared::{SharedItem, SharedNear};
+use crate::shared::{SharedExcerpt, SharedItem};
 use crate::works::work;
 use std::alloc::{AllocError, Global};
 use std::marker::Model;
@@ -17,11 +17,11 @@ pub struct Turn {
     /// Holds the number of the lease.
     pub lease: u64,
     /// Names the operator, and at a join the side that the item is of.
-    pub node: Node,
+    pub node: TurnNode,
     /// Holds the item of the operator's queue.
     pub item: SharedItem,
     /// Holds the excerpt of the operator's state.
-    pub near: SharedNear,
+    pub near: SharedExcerpt,
 }
 
 /// Holds a turn that was run. Its outputs and its change are those of its node, item and excerpt.

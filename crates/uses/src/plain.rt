@@ -3,8 +3,8 @@
 use crate::fixture::{NOW, columns, declare, fill, rows};
 use crate::stop::Stop;
 use leases::Engine;
-use reference::{Answering, Fault, Plain};
-use std::alloc::Global;
+use reference::{Answering, Fault, Plain, byte_at_fault, column_at_fault, row_at_fault};
+use std::alloc::{AllocError, Global};
 use values::Row;
 
 /// Shows what a client of the plain engine calls.
@@ -13,7 +13,8 @@ pub(crate) fn show_all<R: Print>(rt: &R, alloc: Global) -> Result<(), Stop> {
     every_engine_answers_the_same(rt, alloc)?;
     the_plain_engine_forgets_nothing(rt, alloc)?;
     the_plain_engine_shows_names_and_slopes(rt, alloc)?;
-    the_plain_engine_drops_a_query(rt, alloc)
+    the_plain_engine_drops_a_query(rt, alloc)?;
+    a_refusal_has_a_place(rt, alloc)
 }
 
 /// Makes a plain engine with the query `NOW`, and the rows 2 and 5 at the instants 0 and 1.
@@ -95,5 +96,35 @@ fn the_plain_engine_drops_a_query<R: Print>(rt: &R, alloc: Global) -> Result<(),
     let answers = plain.take(0, 100);
     let q = plain.query_named("q");
     println!(rt; "the_plain_engine_drops_a_query: {answers:?}, q {q:?}")?;
+    Ok(())
+}
+
+/// Lists two columns of the same name.
+fn named_twice(alloc: Global) -> Result<Vec<String>, AllocError> {
+    let mut names = columns(alloc)?;
+    names.push(String::from_str(alloc, "a")?)?;
+    Ok(names)
+}
+
+/// Shows which row of a refused append is at fault, and which byte of a name and which column.
+///
+/// S is closed up to 1, so the third row is late: it has the number 2. The name
+/// has a space in its byte 4, and the second column the name of the first.
+fn a_refusal_has_a_place<R: Print>(rt: &R, alloc: Global) -> Result<(), Stop> {
+    let mut plain = filled(alloc)?;
+    let late = rows(alloc, &[(2, 3), (3, 3), (1, 3)])?;
+    if let Err(fault) = plain.append(0, &late) {
+        let row = row_at_fault(fault, &late, 1, 1);
+        println!(rt; "a_refusal_has_a_place: {fault}, row {row:?}")?;
+    }
+    let twice = named_twice(alloc)?;
+    if let Err(fault) = plain.stream("room 2", &twice, 0) {
+        let byte = byte_at_fault(fault, "room 2");
+        println!(rt; "a_refusal_has_a_place: {fault}, byte {byte:?}")?;
+    }
+    if let Err(fault) = plain.stream("rooms", &twice, 0) {
+        let column = column_at_fault(fault, &twice);
+        println!(rt; "a_refusal_has_a_place: {fault}, column {column:?}")?;
+    }
     Ok(())
 }

@@ -75,14 +75,14 @@ struct Counter;
 
 /// Holds what a counter counts.
 #[derive(Drop)]
-struct Counts {
+struct RequestCounts {
     /// Counts the lines that are requests.
     requests: u64,
     /// Counts the lines after which no further line was read ahead.
     waits: u64,
 }
 
-impl Responder<Counts> for Counter {
+impl Responder<RequestCounts> for Counter {
     ghost use Rattle.std.specs.Prelude.{⊤, false};
 
     ghost replies = { λ _ _ _ _ _. ⊤ };
@@ -91,7 +91,7 @@ impl Responder<Counts> for Counter {
 
     fn respond(
         &self,
-        counts: &mut Counts,
+        counts: &mut RequestCounts,
         read: Result<Request, WireFault>,
         waits: bool,
     ) -> (Reply, bool) {
@@ -116,7 +116,7 @@ fn a_responder_answers_requests<R: Print>(rt: &R, alloc: Global) -> Result<(), S
     let lines = "{\"op\":\"drain\"}\nno request\n{\"op\":\"forget\"}\n";
     let mut source = MemorySource::new(lines.as_bytes());
     let mut sink = MemorySink::new(alloc);
-    let mut counts = Counts {
+    let mut counts = RequestCounts {
         requests: 0,
         waits: 0,
     };

@@ -13,8 +13,10 @@ use Rattle.values.specs.Bag.{distinct}
 use Rattle.values.specs.Perm.{Perm, same, keep, flip, join}
 use Rattle.values.specs.Tables.{SameTables}
 use Rattle.values.specs.Window.{Element}
-use Rattle.values.specs.Condition.{Column, field, keeps}
-use Rattle.values.specs.Relation.{Shape, ListItem, Listed, Grouped, Key, CountAll, Count, Sum, Min, Max, combinations, numbers, item_value, key_of, keys_of, group_row, shaped}
+use Rattle.values.specs.Condition.{SourceColumn, field, keeps}
+use Rattle.values.specs.declared.resolved.Aggregate.{Aggregate}
+use Rattle.values.specs.declared.resolved.Aggregate.TheVariants.{Count, Sum, Min, Max}
+use Rattle.values.specs.Relation.{Shape, ListItem, Listed, Grouped, Key, CountAll, Of, combinations, numbers, aggregated, item_value, key_of, keys_of, group_row, shaped}
 use Rattle.values.specs.Answers.{Resolved, StreamOperator, Istream, Dstream, Rstream, body, shown_at, relation, relation_before, streamed, answers_at, answers}
 use Rattle.values.proofs.Perms.{perm-filter, perm-map, perm-flat_map, perm-flat_map_each, perm-distinct, perm-bag_minus, perm-in_order}
 
@@ -65,27 +67,27 @@ perm-combinations (w ∷ ws) (v ∷ vs) h =
     (perm-flat_map_each (each (combinations ws)) (each (combinations vs)) v
     (λ r. perm-map (λ rest. r ∷ rest) (combinations ws) (combinations vs) (perm-combinations ws vs h.1)))
 
+perm-aggregated : (a : Aggregate) (ms ns : List ℤ) → Perm ms ns → aggregated a ms ≡ aggregated a ns
+perm-aggregated Count ms ns p = ap (λ n. Some (pos n)) (perm-length ms ns p)
+perm-aggregated Sum ms ns p = ap (option_map clamp_answer) (perm-reduce ◌+ℤ◌ (λ x y z. omega (arith, ints)) (λ x y. omega (arith, ints)) ms ns p)
+perm-aggregated Min ms ns p = perm-reduce int_min (λ x y z. omega (arith, ints, clamps)) (λ x y. omega (arith, ints, clamps)) ms ns p
+perm-aggregated Max ms ns p = perm-reduce int_max (λ x y z. omega (arith, ints, clamps)) (λ x y. omega (arith, ints, clamps)) ms ns p
+
 pub same-item_value : (key : Row) (g h : List (List Row)) → Perm g h → (i : ListItem) → item_value key g i ≡ item_value key h i
 same-item_value key g h p (Key k) = refl
 same-item_value key g h p CountAll = ap (λ n. Some (pos n)) (perm-length g h p)
-same-item_value key g h p (Count c) = ap (λ n. Some (pos n)) (perm-length (numbers c g) (numbers c h) (perm-filter_map (λ rows. field rows c) g h p))
-same-item_value key g h p (Sum c) =
-    ap (option_map clamp_answer) (perm-reduce ◌+ℤ◌ (λ x y z. omega (arith, ints)) (λ x y. omega (arith, ints)) (numbers c g) (numbers c h) (perm-filter_map (λ rows. field rows c) g h p))
-same-item_value key g h p (Min c) =
-    perm-reduce int_min (λ x y z. omega (arith, ints, clamps)) (λ x y. omega (arith, ints, clamps)) (numbers c g) (numbers c h) (perm-filter_map (λ rows. field rows c) g h p)
-same-item_value key g h p (Max c) =
-    perm-reduce int_max (λ x y z. omega (arith, ints, clamps)) (λ x y. omega (arith, ints, clamps)) (numbers c g) (numbers c h) (perm-filter_map (λ rows. field rows c) g h p)
+same-item_value key g h p (Of a c) = perm-aggregated a (numbers c g) (numbers c h) (perm-filter_map (λ rows. field rows c) g h p)
 
 same-items : (key : Row) (g h : List (List Row)) → Perm g h → (items : List ListItem) → map (item_value key g) items ≡ map (item_value key h) items
 same-items key g h p [] = refl
 same-items key g h p (i ∷ items) = ap (λ v. v ∷ map (item_value key g) items) (same-item_value key g h p i) ∙ ap (λ v. item_value key h i ∷ v) (same-items key g h p items)
 
-same-group_row : (by : List Column) (items : List ListItem) (g h : List (List Row)) → Perm g h → (key : Row) → group_row by items g key ≡ group_row by items h key
+same-group_row : (by : List SourceColumn) (items : List ListItem) (g h : List (List Row)) → Perm g h → (key : Row) → group_row by items g key ≡ group_row by items h key
 same-group_row by items g h p key =
     let t : List Row → Bool = λ rows. same_row key (key_of by rows) in
     same-items key (filter t g) (filter t h) (perm-filter t g h p) items
 
-perm-keys_of : (by : List Column) (g h : List (List Row)) → Perm g h → Perm (keys_of by g) (keys_of by h)
+perm-keys_of : (by : List SourceColumn) (g h : List (List Row)) → Perm g h → Perm (keys_of by g) (keys_of by h)
 perm-keys_of [] g h p = same ([] ∷ [])
 perm-keys_of (c ∷ by) g h p =
     perm-distinct row_cmp row_order (map (key_of (c ∷ by)) g) (map (key_of (c ∷ by)) h) (perm-map (key_of (c ∷ by)) g h p)

@@ -6,9 +6,10 @@ use Rattle.std.specs.declared.cmp.Ordering.TheVariants.{Less, Equal, Greater}
 use Rattle.values.specs.Value.{stream_max, answer_max, clamp_answer, value_text}
 use Rattle.values.specs.Row.{Row, row_cmp}
 use Rattle.values.specs.Window.{input_of, Window, numbered, Range, RangeSlide, LastRows}
-use Rattle.values.specs.Condition.{Column, Field, Number, Compared, Not, And}
+use Rattle.values.specs.Condition.{SourceColumn, Field, Number, Compared, Not, And}
 use Rattle.values.specs.declared.resolved.Compare.TheVariants.{Equals, Above}
-use Rattle.values.specs.Relation.{Listed, Grouped, Key, CountAll, Sum}
+use Rattle.values.specs.declared.resolved.Aggregate.TheVariants.{Sum}
+use Rattle.values.specs.Relation.{Listed, Grouped, Key, CountAll, Of}
 use Rattle.values.specs.Answers.{Resolved, StreamOperator, Istream, Dstream, Rstream, answers}
 
 abbrev num : ℕ → Option ℤ
@@ -55,7 +56,7 @@ unfolding digits
 negative_shown = refl
 
 -- column k of source s
-abbrev at : ℕ → ℕ → Column
+abbrev at : ℕ → ℕ → SourceColumn
 at s k = record { source = s; column = k }
 
 -- a query of one source S(a) that lists a
@@ -121,7 +122,7 @@ count_of_none : answers
     (record {
       windows = Range 0 ∷ [];
       condition = None;
-      shape = Grouped [] (CountAll ∷ Sum (at 0 0) ∷ []);
+      shape = Grouped [] (CountAll ∷ Of Sum (at 0 0) ∷ []);
       is_distinct = false;
       operator = Istream;
     })
@@ -132,7 +133,7 @@ groups_with_nulls : answers
     (record {
       windows = Range 0 ∷ [];
       condition = None;
-      shape = Grouped (at 0 0 ∷ []) (Key 0 ∷ CountAll ∷ Sum (at 0 1) ∷ []);
+      shape = Grouped (at 0 0 ∷ []) (Key 0 ∷ CountAll ∷ Of Sum (at 0 1) ∷ []);
       is_distinct = false;
       operator = Rstream;
     })

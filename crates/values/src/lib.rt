@@ -21,7 +21,8 @@ mod resolved;
 
 use arrayvec::ArrayVec;
 pub use resolved::{
-    Column, Compare, Condition, ListItem, Operand, Resolved, Shape, StreamOperator, Window,
+    Aggregate, Compare, Condition, ListItem, Operand, Resolved, Shape, SourceColumn,
+    StreamOperator, Window,
 };
 use std::cmp::Ordering;
 use std::fmt;

@@ -4,7 +4,7 @@
 /// Names a column of a source of the query. Both are counted from 0, in the order of From and of
 /// the stream's declaration.
 #[derive(Clone, Copy, Debug, PartialEq, Eq)]
-pub struct Column {
+pub struct SourceColumn {
     /// Holds the number of the source, from 0.
     pub source: usize,
     /// Holds the place of the column in the source's rows.
@@ -14,7 +14,7 @@ pub struct Column {
 /// Is one side of a comparison: a column or a number.
 #[derive(Clone, Copy)]
 pub enum Operand {
-    Field(Column),
+    Field(SourceColumn),
     Number(i64),
 }
 
@@ -57,6 +57,19 @@ pub enum Window {
     LastRows(Vec<usize>, u64),
 }
 
+/// Names an aggregate of the numbers that a column has in a group. Nulls are no numbers.
+#[derive(Clone, Copy, Debug, PartialEq, Eq)]
+pub enum Aggregate {
+    /// Counts the numbers.
+    Count,
+    /// Adds the numbers up exactly, clamped to the answer range; null where there are none.
+    Sum,
+    /// Returns the least number; null where there is none.
+    Min,
+    /// Returns the greatest number; null where there is none.
+    Max,
+}
+
 /// Is an item of the list of a grouped query.
 #[derive(Clone, Copy, PartialEq, Eq)]
 pub enum ListItem {
@@ -64,25 +77,18 @@ pub enum ListItem {
     Key(usize),
     /// Counts the combinations of the group.
     CountAll,
-    /// Counts the combinations of the group that have a number in the column.
-    Count(Column),
-    /// Adds up the column's numbers exactly, clamped to the answer range; null where there are
-    /// none.
-    Sum(Column),
-    /// Lists the least number of the column; null where there is none.
-    Min(Column),
-    /// Lists the greatest number of the column; null where there is none.
-    Max(Column),
+    /// Lists the aggregate of the column's numbers.
+    Of(Aggregate, SourceColumn),
 }
 
 /// Says what is listed. Each list has at most `MAX_COLUMNS` items.
 #[derive(Drop)]
 pub enum Shape {
     /// Lists the columns for each combination.
-    Listed(Vec<Column>),
+    Listed(Vec<SourceColumn>),
     /// Lists the items for each group. Holds Group By's columns, none where Group By is missing,
     /// then the items.
-    Grouped(Vec<Column>, Vec<ListItem>),
+    Grouped(Vec<SourceColumn>, Vec<ListItem>),
 }
 
 /// Names a relation-to-stream operator of CQL.

@@ -1,6 +1,6 @@
 -- The turns of a window of the last instants that moves at the multiples of a number alone.
-use Rattle.std.specs.Prelude.{ℕ, ◌-◌, ◌*◌, ◌/◌, ◌==◌, ◌<◌, ◌≤◌, Bool, true, cond, not, nat_lt, List}
-use Rattle.std.specs.Prelude.{[], ◌∷◌, ◌++◌, map, length, take, drop}
+use Rattle.std.specs.Prelude.{ℕ, ◌≡◌, ◌-◌, ◌*◌, ◌/◌, ◌==◌, ◌<◌, ◌≤◌, ◌⊎◌, Bool, true, false, cond}
+use Rattle.std.specs.Prelude.{not, nat_lt, List, [], ◌∷◌, ◌++◌, map, length, take, drop}
 use Rattle.std.specs.List.{filter}
 use Rattle.values.specs.Row.{Row}
 use Rattle.op_queue.specs.Entries.{Entry, RowAt, TickAt}
@@ -27,14 +27,20 @@ moves step t = t / step * step == t
 abbrev pub is_past : ℕ → ℕ → ℕ × Row → Bool
 is_past span t h = nat_lt h.0 (t - span)
 
+-- NOTHING CHANGES at the ticks from the instant n to below b: the window does not move, or it shows
+-- all its rows, and at the last of these ticks none of them is past
+abbrev pub Stays : ℕ → ℕ → SlideState → Type 0
+Stays n b s = ((t : ℕ) → n ≤ t → t < b → moves s.step t ≡ false)
+    ⊎ ((s.shown ≡ length s.held) × (filter (is_past s.span (b - 1)) s.held ≡ []))
+
 -- what a turn needs: the shown rows that leave, the other rows that
 -- go without being shown, and those that are shown from now on
-pub record SlideNear : Type 0 where
+pub record SlideExcerpt : Type 0 where
   pub leave : List Row
   pub pass : List Row
   pub enter : List Row
 
-abbrev pub nothing : SlideNear
+abbrev pub nothing : SlideExcerpt
 nothing = record { leave = []; pass = []; enter = [] }
 
 -- the rows of a sliding window stand by instant, those that it
@@ -45,21 +51,21 @@ pub record IsSlide (step w : ℕ) (held : List (ℕ × Row)) (shown : ℕ) : Typ
   pub few : shown ≤ length held
 
 -- all rows have as many columns
-abbrev pub HaveOneWidthIn : SlideNear → Type 0
+abbrev pub HaveOneWidthIn : SlideExcerpt → Type 0
 HaveOneWidthIn n = (w : ℕ) × (AreWide w n.leave × AreWide w n.enter)
 
 abbrev pub rows_in : List (ℕ × Row) → List Row
 rows_in held = map (λ h. h.1) held
 
 -- where it moves
-abbrev pub near_at : SlideState → ℕ → SlideNear
+abbrev pub near_at : SlideState → ℕ → SlideExcerpt
 near_at s t = record {
   leave = rows_in (filter (is_past s.span t) (take s.shown s.held));
   pass = rows_in (filter (is_past s.span t) (drop s.shown s.held));
   enter = rows_in (filter (λ h. not (is_past s.span t h)) (drop s.shown s.held));
 }
 
-abbrev pub near : SlideState → Item → SlideNear
+abbrev pub near : SlideState → Item → SlideExcerpt
 near s (Rows t b) = nothing
 near s (Tick t) = cond (moves s.step t) (near_at s t) nothing
 
@@ -67,11 +73,11 @@ abbrev pub entering : Row → Bool × Row
 entering r = (true, r)
 
 -- those that leave and then those that enter
-abbrev pub signed : SlideNear → List (Bool × Row)
+abbrev pub signed : SlideExcerpt → List (Bool × Row)
 signed n = map leaving n.leave ++ map entering n.enter
 
 -- nothing at rows; at a tick what the excerpt has, and then the tick
-abbrev pub out : Item → SlideNear → List (Entry Row)
+abbrev pub out : Item → SlideExcerpt → List (Entry Row)
 out (Rows t b) n = []
 out (Tick t) n = map (RowAt t) (signed n) ++ TickAt t ∷ []
 

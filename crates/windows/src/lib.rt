@@ -27,4 +27,4 @@ pub use laws::{
 };
 pub use range::{RangeWindow, range_work};
 pub use row_table::RowTable;
-pub use slide::{SlideNear, SlideWindow, slide_work};
+pub use slide::{SlideExcerpt, SlideWindow, slide_work};

@@ -11,9 +11,22 @@ use column::Batch;
 use std::alloc::{AllocError, Global};
 use values::MAX_COLUMNS;
 
+/// Is the expression with `parts` bound to the partitions, whatever the room of their keys.
+macro_rules! with_parts {
+    ($held:expr, $parts:ident => $body:expr) => {
+        match $held {
+            Partitions::Two($parts) => $body,
+            Partitions::Four($parts) => $body,
+            Partitions::Eight($parts) => $body,
+            Partitions::Sixteen($parts) => $body,
+            Partitions::Widest($parts) => $body,
+        }
+    };
+}
+
 /// Holds the rows of each partition, by how many values the keys may have.
 #[derive(Drop)]
-pub(crate) enum Parts {
+pub(crate) enum Partitions {
     Two(KeyedParts<2>),
     Four(KeyedParts<4>),
     Eight(KeyedParts<8>),
@@ -21,23 +34,23 @@ pub(crate) enum Parts {
     Widest(KeyedParts<MAX_COLUMNS>),
 }
 
-impl Parts {
+impl Partitions {
     /// Returns partitions without rows, with the least room for keys of `columns` columns.
-    pub(crate) fn new(alloc: Global, columns: usize) -> Parts
+    pub(crate) fn new(alloc: Global, columns: usize) -> Partitions
         requires { columns ≤ MAX_COLUMNS }
         ensures entries { entries_in result ≡ [] }
         ensures room { columns ≤ room_of result }
     {
         if columns <= 2 {
-            Parts::Two(KeyedParts::new(alloc))
+            Partitions::Two(KeyedParts::new(alloc))
         } else if columns <= 4 {
-            Parts::Four(KeyedParts::new(alloc))
+            Partitions::Four(KeyedParts::new(alloc))
         } else if columns <= 8 {
-            Parts::Eight(KeyedParts::new(alloc))
+            Partitions::Eight(KeyedParts::new(alloc))
         } else if columns <= 16 {
-            Parts::Sixteen(KeyedParts::new(alloc))
+            Partitions::Sixteen(KeyedParts::new(alloc))
         } else {
-            Parts::Widest(KeyedParts::new(alloc))
+            Partitions::Widest(KeyedParts::new(alloc))
         }
     }
 
@@ -55,13 +68,7 @@ impl Parts {
             ≡ all_fallen columns.now count (held_in (entries_in self.now)) batch.now) }
         ensures table { IsTable (width batch.now) batch.now }
     {
-        match self {
-            Parts::Two(parts) => parts.fallen_rows(alloc, columns, count, batch),
-            Parts::Four(parts) => parts.fallen_rows(alloc, columns, count, batch),
-            Parts::Eight(parts) => parts.fallen_rows(alloc, columns, count, batch),
-            Parts::Sixteen(parts) => parts.fallen_rows(alloc, columns, count, batch),
-            Parts::Widest(parts) => parts.fallen_rows(alloc, columns, count, batch),
-        }
+        with_parts!(self, parts => parts.fallen_rows(alloc, columns, count, batch))
     }
 
     /// Adds the rows of a batch to their partitions, and drops the oldest if there are then more
@@ -81,12 +88,6 @@ impl Parts {
         ensures parts { AreParts count (width batch.now) (held_in (entries_in self.new)) }
         ensures room { room_of self.new ≡ room_of self.old }
     {
-        match self {
-            Parts::Two(parts) => parts.enter_all(alloc, columns, count, batch),
-            Parts::Four(parts) => parts.enter_all(alloc, columns, count, batch),
-            Parts::Eight(parts) => parts.enter_all(alloc, columns, count, batch),
-            Parts::Sixteen(parts) => parts.enter_all(alloc, columns, count, batch),
-            Parts::Widest(parts) => parts.enter_all(alloc, columns, count, batch),
-        }
+        with_parts!(self, parts => parts.enter_all(alloc, columns, count, batch))
     }
 }

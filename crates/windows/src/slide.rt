@@ -2,13 +2,13 @@
 //! number.
 ghost use Rattle.std.specs.Prelude.{◌≡◌, ℕ, ◌<◌, ◌≤◌, ◌++◌, ◌↔◌, [], false, IsTrue, length, IfOk};
 ghost use Rattle.std.specs.Prelude.{OnOk, OnErr};
-ghost use Rattle.std.specs.List.{flat_map};
+ghost use Rattle.std.specs.List.{filter, flat_map};
 ghost use Rattle.op_queue.specs.Entries.{IsForward};
 ghost use Rattle.op_queue.specs.Items.{entries_of, item_instant};
 ghost use Rattle.op_queue.specs.Queues.{HasGained};
 ghost use Rattle.windows.specs.Range.{IsAfter};
 ghost use Rattle.windows.specs.Slide as spec;
-ghost use Rattle.windows.specs.Slide.{HaveOneWidthIn, near, near_at, next, nothing, out};
+ghost use Rattle.windows.specs.Slide.{HaveOneWidthIn, Stays, near, near_at, next, nothing, out};
 ghost use Rattle.windows.specs.Widths.{IsItemWide};
 
 use crate::held::HeldRows;
@@ -58,7 +58,7 @@ impl Model for SlideWindow {
 /// its rows except those that it shows before and after. Each list is in the order of the rows.
 /// At any other item there are none.
 #[derive(Drop)]
-pub struct SlideNear {
+pub struct SlideExcerpt {
     /// Holds the rows that were shown and leave.
     pub leave: RowTable,
     /// Holds the rows that go and were never shown.
@@ -67,10 +67,10 @@ pub struct SlideNear {
     pub enter: RowTable,
 }
 
-impl Model for SlideNear {
-    ghost use Rattle.windows.specs.Slide.{SlideNear as PlainNear};
+impl Model for SlideExcerpt {
+    ghost use Rattle.windows.specs.Slide.{SlideExcerpt as PlainExcerpt};
 
-    ghost Value = { PlainNear };
+    ghost Value = { PlainExcerpt };
 
     ghost view = { λ n.
         record {
@@ -80,9 +80,9 @@ impl Model for SlideNear {
         } };
 }
 
-impl SlideNear {
+impl SlideExcerpt {
     /// Returns whether the excerpts have the same rows in each list.
-    pub fn is_same(&self, other: &SlideNear) -> bool
+    pub fn is_same(&self, other: &SlideExcerpt) -> bool
         ensures { IsTrue result ↔ (self.now ≡ other.now) }
     {
         self.leave.is_same(&other.leave)
@@ -205,7 +205,7 @@ impl SlideWindow {
     ///
     /// # Errors
     /// `AllocError` when out of memory; then nothing has changed.
-    pub fn near(&self, alloc: Global, item: &Item) -> Result<SlideNear, AllocError>
+    pub fn near(&self, alloc: Global, item: &Item) -> Result<SlideExcerpt, AllocError>
         ensures value { IfOk result (λ n. n ≡ near self.now item.now) }
         ensures wide { IfOk result HaveOneWidthIn }
     {
@@ -228,15 +228,31 @@ impl SlideWindow {
         moves(self.step, at)
     }
 
-    /// Returns an instant below which, from `start` on, it does not move: the next multiple.
+    /// Returns an instant below which, from `start` on, nothing changes if only ticks come. That is
+    /// the next multiple. If it shows all its rows, it is as long as none of them is past.
+    #[tactic(auto, using(crate::proofs::StillLemmas::stays_shown, crate::proofs::StillLemmas::stays_unmoved))]
     pub fn stays_until(&self, start: u64) -> u64
-        ensures { (t : ℕ) → start ≤ t → t < result → spec.moves self.now.step t ≡ false }
+        ensures { (b : ℕ) → start < b → b ≤ result → Stays start b self.now }
     {
-        stays_until(self.step, start)
+        let next = next_multiple(self.step, start);
+        if self.shown < self.held.len() {
+            return next;
+        }
+        next.max(self.keeps_until())
+    }
+
+    /// Returns an instant before whose tick none of its rows is past.
+    fn keeps_until(&self) -> u64
+        ensures { (t : ℕ) → t < result → filter (spec.is_past self.now.span t) self.now.held ≡ [] }
+    {
+        self.held
+            .first_instant()
+            .saturating_add(self.span)
+            .saturating_add(1)
     }
 
     /// Returns the excerpt of a tick at which it moves.
-    fn near_at(&self, alloc: Global, at: u64) -> Result<SlideNear, AllocError>
+    fn near_at(&self, alloc: Global, at: u64) -> Result<SlideExcerpt, AllocError>
         ensures value { IfOk result (λ n. n ≡ near_at self.now at) }
         ensures wide { IfOk result HaveOneWidthIn }
     {
@@ -245,7 +261,7 @@ impl SlideWindow {
         let leave = self.held.part(alloc, 0, older.min(self.shown))?;
         let pass = self.held.part(alloc, self.shown, middle)?;
         let enter = self.held.part(alloc, middle, self.held.len())?;
-        Ok(SlideNear { leave, pass, enter })
+        Ok(SlideExcerpt { leave, pass, enter })
     }
 
     /// Takes the item into the state. The item says all, so there is no change beside it.
@@ -282,7 +298,7 @@ fn moves(step: u64, at: u64) -> bool
 }
 
 /// Returns an instant below which, from `start` on, no multiple of the step is.
-fn stays_until(step: u64, start: u64) -> u64
+fn next_multiple(step: u64, start: u64) -> u64
     requires { 0 < step }
     ensures { (t : ℕ) → start ≤ t → t < result → spec.moves step t ≡ false }
 {
@@ -294,11 +310,11 @@ fn stays_until(step: u64, start: u64) -> u64
 }
 
 /// Returns the excerpt with no row.
-fn no_rows(alloc: Global) -> SlideNear
+fn no_rows(alloc: Global) -> SlideExcerpt
     ensures value { result ≡ nothing }
     ensures wide { HaveOneWidthIn result }
 {
-    SlideNear {
+    SlideExcerpt {
         leave: RowTable::new(alloc),
         pass: RowTable::new(alloc),
         enter: RowTable::new(alloc),
@@ -309,7 +325,7 @@ fn no_rows(alloc: Global) -> SlideNear
 ///
 /// # Errors
 /// `AllocError` when out of memory; then nothing has changed.
-pub fn slide_work(alloc: Global, item: &Item, near: &SlideNear) -> Result<Vec<Item>, AllocError>
+pub fn slide_work(alloc: Global, item: &Item, near: &SlideExcerpt) -> Result<Vec<Item>, AllocError>
     ensures { IfOk result (λ outs. flat_map entries_of outs.items ≡ out item.now near.now) }
 {
     match item {

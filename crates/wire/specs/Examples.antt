@@ -4,7 +4,7 @@ use Rattle.std.specs.Fmt.{digits}
 use Rattle.envelope.specs.Fraction.{fraction}
 use Rattle.names.specs.declared.fault.ResolveFault.TheVariants.{NotGrouped}
 use Rattle.plan.specs.declared.fault.PlanFault.TheVariants.{Unresolved}
-use Rattle.plan.specs.declared.node.Kind.TheVariants.{Window, ToStream}
+use Rattle.plan.specs.declared.node.NodeKind.TheVariants.{Window, ToStream}
 use Rattle.reference.specs.FaultTexts.{fault_text}
 use Rattle.reference.specs.declared.fault.Fault.TheVariants.{Query, Late}
 use Rattle.reference.specs.declared.fault.QueryFault.TheVariants.{Unexpected, Planned}

@@ -7,7 +7,7 @@ use Rattle.values.specs.Row.{Row}
 use Rattle.envelope.specs.Fraction.{Fraction}
 use Rattle.envelope.specs.LowestTerms.{shown}
 use Rattle.plan.specs.Kinds.{kind_name}
-use Rattle.plan.specs.declared.node.Kind.{Kind}
+use Rattle.plan.specs.declared.node.NodeKind.{NodeKind}
 use Rattle.reference.specs.FaultTexts.{fault_text}
 use Rattle.reference.specs.Status.{QueryStatus, StreamStatus}
 use Rattle.reference.specs.Status as defined
@@ -25,7 +25,7 @@ pub data Answer : Type 0 where
   -- answers of a query, each with its instant
   rows : List (ℤ × Row) → Answer
   -- what each operator of a query does, and its slope
-  operators : List (Kind × Fraction) → Answer
+  operators : List (NodeKind × Fraction) → Answer
   -- how far each query and each stream is
   status : defined.Status → Answer
   -- the engine refused the call
@@ -65,12 +65,12 @@ rows_text [] = []
 rows_text (row ∷ more) = row_text row ++ after_commas row_text more
 
 -- what the operator does, then its slope
-unfoldable pub operator_text : Kind × Fraction → List ℕ
+unfoldable pub operator_text : NodeKind × Fraction → List ℕ
 operator_text operator = codes "[\"" ++ kind_name operator.0 ++ codes "\",\"" ++ shown operator.1
     ++ codes "\"]"
 
 -- commas between the operators
-unfoldable pub operators_text : List (Kind × Fraction) → List ℕ
+unfoldable pub operators_text : List (NodeKind × Fraction) → List ℕ
 operators_text [] = []
 operators_text (operator ∷ more) = operator_text operator ++ after_commas operator_text more
 

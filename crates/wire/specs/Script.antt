@@ -3,7 +3,7 @@ use Rattle.std.specs.Prelude.{◌≡◌, ℕ, ℤ, Bool, true, false, List, [], 
 use Rattle.std.specs.Prelude.{Result, Ok, Err, ◌⊎◌, ⊤}
 use Rattle.values.specs.Row.{Row}
 use Rattle.envelope.specs.Fraction.{Fraction}
-use Rattle.plan.specs.declared.node.Kind.{Kind}
+use Rattle.plan.specs.declared.node.NodeKind.{NodeKind}
 use Rattle.reference.specs.Alike.{Alike}
 use Rattle.reference.specs.World.{World, Step, MayLackMemory, StopsEarly, stream_named, query_named}
 use Rattle.reference.specs.World.{declare_step, register_step, append_step, heartbeat_step}
@@ -27,7 +27,7 @@ abbrev pub rows_of : Result (List (ℤ × Row)) Fault → Answer
 rows_of (Ok taken) = rows taken
 rows_of (Err f) = refused f
 
-abbrev pub operators_or : Result (List (Kind × Fraction)) Fault → Answer
+abbrev pub operators_or : Result (List (NodeKind × Fraction)) Fault → Answer
 operators_or (Ok found) = operators found
 operators_or (Err f) = refused f
 

@@ -7,8 +7,8 @@ use crate::device::{Sink, put};
 use crate::digits::{MOST_BYTES, put_digits, put_next_number};
 use arrayvec::ArrayVec;
 
-/// Limits the bytes that a page holds.
-const PAGE: usize = 16_384;
+/// Limits the bytes that a page holds. A reply of some thousand rows is one write.
+const PAGE: usize = 65_536;
 
 /// Holds the bytes of lines that the sink has not yet got, and whether no write has failed.
 ///

@@ -16,7 +16,7 @@ use crate::fault::ScriptFault;
 use crate::page::Page;
 use crate::request::WireFault;
 use crate::status::add_status;
-use reference::{AnswerRows, Fault, Kind, Slope, Status};
+use reference::{AnswerRows, Fault, NodeKind, Slope, Status};
 use std::ops::Deref;
 use std::sync::Arc;
 use values::Value;
@@ -31,7 +31,7 @@ pub enum Reply {
     /// Holds answers that someone else keeps too, as a hub's history does.
     Shared(Arc<AnswerRows>),
     /// Says what each operator of a query does, and its slope.
-    Operators(Vec<(Kind, Slope)>),
+    Operators(Vec<(NodeKind, Slope)>),
     /// Says how far each stream and each undropped query is.
     Status(Status),
     /// Says that the engine refused the call.
@@ -106,17 +106,17 @@ fn add_taken<K: Sink>(sink: &mut K, page: &mut Page, taken: &AnswerRows)
     page.add(sink, b"]}\n");
 }
 
-fn kind_name(kind: Kind) -> &'static str
+fn kind_name(kind: NodeKind) -> &'static str
     ensures { result.now ≡ kind_name kind }
 {
     match kind {
-        Kind::Window => "Window",
-        Kind::Select => "Select",
-        Kind::Join => "Join",
-        Kind::Project => "Project",
-        Kind::Group => "Group",
-        Kind::Distinct => "Distinct",
-        Kind::ToStream => "ToStream",
+        NodeKind::Window => "Window",
+        NodeKind::Select => "Select",
+        NodeKind::Join => "Join",
+        NodeKind::Project => "Project",
+        NodeKind::Group => "Group",
+        NodeKind::Distinct => "Distinct",
+        NodeKind::ToStream => "ToStream",
     }
 }
 
@@ -132,7 +132,7 @@ fn add_slope<K: Sink>(sink: &mut K, page: &mut Page, slope: Slope)
 }
 
 #[tactic(auto, using(crate::proofs::Printing::writes_both), unfolding(crate::specs::Printed::operator_text))]
-fn add_operator<K: Sink>(sink: &mut K, page: &mut Page, kind: Kind, slope: Slope)
+fn add_operator<K: Sink>(sink: &mut K, page: &mut Page, kind: NodeKind, slope: Slope)
     ensures { Writes (K.taken sink.old) (K.failures sink.old) page.old
         (K.taken sink.new) (K.failures sink.new) page.new (operator_text (kind, slope)) }
 {
@@ -144,7 +144,7 @@ fn add_operator<K: Sink>(sink: &mut K, page: &mut Page, kind: Kind, slope: Slope
 }
 
 #[tactic(auto, using(crate::proofs::Printing::writes_both))]
-fn add_more_operators<K: Sink>(sink: &mut K, page: &mut Page, operators: &[(Kind, Slope)])
+fn add_more_operators<K: Sink>(sink: &mut K, page: &mut Page, operators: &[(NodeKind, Slope)])
     ensures { Writes (K.taken sink.old) (K.failures sink.old) page.old
         (K.taken sink.new) (K.failures sink.new) page.new
         (after_commas operator_text operators.now) }
@@ -156,7 +156,7 @@ fn add_more_operators<K: Sink>(sink: &mut K, page: &mut Page, operators: &[(Kind
 }
 
 #[tactic(auto, using(crate::proofs::Printing::writes_both), unfolding(crate::specs::Printed::operators_text))]
-fn add_operators<K: Sink>(sink: &mut K, page: &mut Page, operators: &[(Kind, Slope)])
+fn add_operators<K: Sink>(sink: &mut K, page: &mut Page, operators: &[(NodeKind, Slope)])
     ensures { Writes (K.taken sink.old) (K.failures sink.old) page.old
         (K.taken sink.new) (K.failures sink.new) page.new (operators_text operators.now) }
 {

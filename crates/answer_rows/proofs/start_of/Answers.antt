@@ -1,4 +1,4 @@
-use Rattle.std.proofs.Common.{◌≡◌, ◌+◌, ◌-◌, ◌∙◌, ap, refl, sym, arith, ℕ, suc}
+use Rattle.std.proofs.Common.{◌≡◌, ◌-◌, ◌∙◌, ap, refl, arith, ℕ, suc}
 use Rattle.answer_rows.specs.Rows.{starts_at}
 use Rattle.answer_rows.proofs.RowLemmas.{starts-next}
 use Rattle.answer_rows.proofs.start_of.Goals as goal

@@ -5,7 +5,7 @@ ghost use Rattle.hub.specs.Steps.{SeesReady, SeesSlopes, SeesStatus, SeesWaiting
 use crate::hub::Hub;
 use answer_rows::AnswerRows;
 use envelope::Slope;
-use plan::Kind;
+use plan::NodeKind;
 use reference::{Fault, Status};
 use std::sync::Wait;
 
@@ -75,7 +75,7 @@ impl Hub {
     /// memory.
     ///
     /// Example: `anyone_looks_without_a_seat` in crates/uses/src/hubs.rt.
-    pub fn slopes<R: Wait>(&self, rt: &R, query: u64) -> Result<Vec<(Kind, Slope)>, Fault>
+    pub fn slopes<R: Wait>(&self, rt: &R, query: u64) -> Result<Vec<(NodeKind, Slope)>, Fault>
         ensures { (l : PlainLocked) × SeesSlopes (λ v. v.items) l query result }
     {
         self.locked.lock(rt).slopes(query)

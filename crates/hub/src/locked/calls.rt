@@ -14,7 +14,7 @@ use crate::carry::carry_out;
 use crate::locked::{Locked, MAX_ENTRIES};
 use crate::seat::Seat;
 use answer_rows::AnswerRows;
-use histories::{Command, CommandKind, Entry, Receipt, Reply, ReplyKind};
+use histories::{Command, CommandKind, CommandReply, Entry, Receipt, ReplyKind};
 use plan::Chart;
 use reference::{Fault, NewRows};
 use std::alloc::{AllocError, Global};
@@ -150,7 +150,7 @@ impl Locked {
 
     // Carries a client's command out. Everything that grows does so before the engine is changed.
     #[tactic(auto, unfolding(crate::specs::Steps::engine_at), using(crate::proofs::DecliningLemmas::barred_declines, crate::proofs::DecliningLemmas::refused_declines, crate::proofs::DecliningLemmas::short_declines))]
-    fn call(&mut self, seat: &mut Seat, command: Command) -> Result<(Reply, Receipt), Fault>
+    fn call(&mut self, seat: &mut Seat, command: Command) -> Result<(CommandReply, Receipt), Fault>
         ensures ok { IfOk result (λ r. (r.0 ≡ r.1.entry.reply)
             × Accepted self.old seat.old command r.1 self.new seat.new) }
         ensures err { IfErr result (λ f.

@@ -6,7 +6,7 @@ ghost use Rattle.hub.specs.Steps.{SeesStatus, SeesWaiting, engine_at};
 use crate::locked::Locked;
 use answer_rows::AnswerRows;
 use envelope::Slope;
-use plan::Kind;
+use plan::NodeKind;
 use reference::{Answering, Fault, Status};
 
 impl Locked {
@@ -83,7 +83,7 @@ impl Locked {
     /// `UnknownQuery` if there is no such query, or it was dropped; `OutOfMemory` when out of
     /// memory.
     #[tactic(auto, unfolding(crate::specs::Steps::engine_at))]
-    pub fn slopes(&self, query: u64) -> Result<Vec<(Kind, Slope)>, Fault>
+    pub fn slopes(&self, query: u64) -> Result<Vec<(NodeKind, Slope)>, Fault>
         ensures { SeesSlopes (λ v. v.items) self.now query result }
     {
         self.engine.slopes(query)

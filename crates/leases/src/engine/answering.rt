@@ -29,7 +29,7 @@ ghost use Rattle.leases.specs.Whole.{HasNumbers, IsWhole};
 use crate::engine::Engine;
 use answer_rows::AnswerRows;
 use envelope::Slope;
-use plan::{Chart, Kind};
+use plan::{Chart, NodeKind};
 use reference::{Answering, Fault, NewRows, Status, query_place};
 use values::Row;
 
@@ -221,7 +221,7 @@ impl Answering for Engine {
         self.state.tidy();
     }
 
-    fn slopes(&self, query: u64) -> Result<Vec<(Kind, Slope)>, Fault> {
+    fn slopes(&self, query: u64) -> Result<Vec<(NodeKind, Slope)>, Fault> {
         self.state.slopes(query)
     }
 

@@ -8,7 +8,7 @@ ghost use Rattle.leases.specs.Whole.{IsWhole};
 ghost use Rattle.reference.specs.World as world;
 
 use crate::engine::Engine;
-use crate::state::State;
+use crate::state::EngineState;
 use reference::Fault;
 use std::alloc::Global;
 
@@ -23,7 +23,7 @@ impl Engine {
         ensures promises { KeepsItsPromises (engine_in result) }
     {
         Engine {
-            state: State::new(alloc),
+            state: EngineState::new(alloc),
         }
     }
 

@@ -12,10 +12,10 @@ ghost use Rattle.leases.specs.Views.{query_of};
 use crate::reader::forget_readers;
 use crate::registered::Registration;
 use crate::remains::Remains;
-use crate::state::State;
+use crate::state::EngineState;
 use reference::Fault;
 
-impl State {
+impl EngineState {
     /// Gives up the turn with this number; its operator may be leased again. Takes no memory.
     ///
     /// # Errors

@@ -22,9 +22,9 @@ ghost use Rattle.leases.specs.Whole.{IsWhole};
 ghost use Rattle.leases.specs.declared.state.jobs.Job.{Job as OneJob};
 
 use crate::limits::LEASE_NUMBERS;
-use crate::reader::Reader;
+use crate::reader::WindowReader;
 use crate::remains::Remains;
-use crate::state::State;
+use crate::state::EngineState;
 use crate::state::jobs::{Job, MOST_TURNS, Quota};
 use crate::state::shares::{run_all, run_jobs, work_of};
 use reference::{Fault, turn_fault};
@@ -40,7 +40,7 @@ const ROWS_OF_A_THREAD: u64 = 1_024;
 /// about a quarter of a small turn.
 const LOOKS_OF_A_TURN: u64 = 4;
 
-impl State {
+impl EngineState {
     /// Runs a few turns, so that a short drain looks at no idle query. Then drains the ready
     /// queries one after the other, and runs what is left, turn by turn.
     pub(crate) fn drain(&mut self, rows: u32) -> Result<(), Fault>
@@ -233,7 +233,7 @@ impl State {
 
     /// Counts the rows that wait for a window of a running query, at the cost of a look at each.
     #[tactic(auto, using(crate::proofs::LendLemmas::has_operator))]
-    fn rows_for(&self, reader: &Reader) -> u64
+    fn rows_for(&self, reader: &WindowReader) -> u64
         requires { MayLookAt (engine_in self.now) reader.now.query }
     {
         let query = self.running(reader.query);

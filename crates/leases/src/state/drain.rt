@@ -23,7 +23,7 @@ ghost use Rattle.leases.specs.Whole.{IsWhole};
 
 use crate::limits::LEASE_NUMBERS;
 use crate::remains::Remains;
-use crate::state::State;
+use crate::state::EngineState;
 use crate::state::status::reach_of;
 use column::Side;
 use operators::Refused;
@@ -32,7 +32,7 @@ use run_queue::Slot;
 use std::alloc::{AllocError, Global};
 use stream_store::Streams;
 
-impl State {
+impl EngineState {
     /// Runs one turn of at most `rows` rows after the other until no operator may take anything.
     pub(crate) fn run_turns(&mut self, rows: u32) -> Result<(), Fault>
         requires sound { IsSound self.old }

@@ -19,14 +19,14 @@ ghost use Rattle.leases.specs.Views.{remains_of};
 
 use crate::reach::Reach;
 use crate::remains::Remains;
-use crate::state::State;
+use crate::state::EngineState;
 use reference::Fault;
 use run_queue::Slot;
 use std::alloc::AllocError;
 use stream_store::Streams;
 use turn::{Done, Parts, Turn, same_item};
 
-impl State {
+impl EngineState {
     /// Takes back a turn that was run.
     ///
     /// # Errors

@@ -10,13 +10,13 @@ ghost use Rattle.leases.specs.Takes.{HandsOut, Peeks, ShowsFirst, Takes, count_i
 ghost use Rattle.leases.specs.Views.{remains_of};
 
 use crate::remains::Remains;
-use crate::state::State;
+use crate::state::EngineState;
 use crate::state::takes::count_taken;
 use answer_rows::AnswerRows;
 use reference::Fault;
 use std::alloc::Global;
 
-impl State {
+impl EngineState {
     /// Hands out the first answers that wait, at most `limit`, in one flat list.
     pub(crate) fn take_flat(&mut self, query: u64, limit: i64) -> Result<AnswerRows, Fault>
         requires { IsSound self.old }

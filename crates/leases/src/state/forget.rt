@@ -24,7 +24,7 @@ ghost use Rattle.leases.specs.Views.{query_of, remains_of};
 use crate::limits::ALL_INSTANTS;
 use crate::registered::Registration;
 use crate::remains::Remains;
-use crate::state::State;
+use crate::state::EngineState;
 use needed_rows::{ClosedRows, Reader, needed};
 use std::alloc::{AllocError, Global};
 use std::ops::Deref;
@@ -55,7 +55,7 @@ struct Going<'a> {
     next: u64,
 }
 
-impl State {
+impl EngineState {
     /// Gives up the rows that no query needs. Each query goes on from the instant after its mark;
     /// what it answers then follows the waiting answers.
     ///

@@ -15,15 +15,15 @@ ghost use Rattle.leases.specs.Shown.{engine_in, world_in};
 ghost use Rattle.leases.specs.Sound.{IsSound};
 ghost use Rattle.leases.specs.Views.{remains_of};
 
-use crate::reader::Reader;
+use crate::reader::WindowReader;
 use crate::remains::Remains;
-use crate::state::State;
+use crate::state::EngineState;
 use reference::Fault;
 use run_queue::Slot;
 use std::alloc::AllocError;
 use stream_store::Streams;
 
-impl State {
+impl EngineState {
     /// Closes all instants of the stream up to `at`.
     ///
     /// It costs the closed rows, and a look at each window of the running queries. It also changes
@@ -64,7 +64,7 @@ impl State {
     }
 
     /// Appends the reader's slot, if it has nothing to take.
-    fn push_if_idle(&self, reader: &Reader, slots: &mut Vec<Slot>) -> Result<(), AllocError>
+    fn push_if_idle(&self, reader: &WindowReader, slots: &mut Vec<Slot>) -> Result<(), AllocError>
         requires { GoodEngine (engine_in self.now) }
         ensures { OnOk result (slots.new.items
             ≡ slots.old.items

@@ -3,7 +3,6 @@ ghost use Rattle.std.specs.Prelude.{◌≡◌, ◌<◌, ◌≤◌, ◌*◌, ◌�
 ghost use Rattle.laws_queries.specs.Queries.{PlainQuery};
 ghost use Rattle.laws_engine.specs.Engines.{Running, next_of};
 ghost use Rattle.query_runtime.specs.Passing.{HasOperators};
-ghost use Rattle.query_runtime.specs.Turns.{HasOperator};
 ghost use Rattle.leases.specs.Alone.{HasRunAlone, HasStoppedOwn, IsReadyIn, MayPassOwn};
 ghost use Rattle.leases.specs.Alone.{MayRunAlone, OneOwnStep};
 ghost use Rattle.leases.specs.Forgets.{IsMarkable};
@@ -122,8 +121,8 @@ fn run_remains(
 ///
 /// It goes instant by instant: no operator takes a later instant while another can take an earlier
 /// one. So after the turns of the root nothing waits between operators, whatever the slopes are,
-/// unless one of several sources lags. Then a gap can be passed. A pass is tried there, and at the
-/// start.
+/// unless one of several sources lags. If none lags, a gap can be passed there. A pass is tried
+/// there, and at the start.
 fn run_alone(
     query: &mut RunningQuery,
     streams: &Streams,
@@ -153,7 +152,7 @@ fn run_alone(
                 };
             },
         }
-        next = again(query, streams, &slot);
+        next = next_above(query, streams, registration, &slot);
         settled = query.len() <= slot.operator().saturating_add(1);
     }
     Ran { turns, broke: None }
@@ -242,16 +241,25 @@ fn next_ready(
     }
 }
 
-/// Returns the slot with what its operator may take next, if that is of the same instant.
-fn again(query: &RunningQuery, streams: &Streams, slot: &Slot) -> Option<Slot>
-    requires { HasOperator streams.now query.now slot.now.operator }
+/// Returns the slot that comes next after a turn of this one's operator, if it waits for the same
+/// instant. The turn's outputs went to an operator above, so this looks at none below. It costs a
+/// look at each operator from this one up.
+fn next_above(
+    query: &RunningQuery,
+    streams: &Streams,
+    registration: &Registration,
+    slot: &Slot,
+) -> Option<Slot>
+    requires { MayRunAlone streams.now (query_of registration.now) query.now }
     ensures { IfSome result (IsReadyIn streams.now query.now) }
 {
-    let next = query.ready(streams, slot.operator());
-    if !slot.goes_on(next) {
-        return None;
+    for operator in slot.operator()..query.len() {
+        let next = query.ready(streams, operator);
+        if slot.goes_on(next) {
+            return Some(Slot::new(slope_of(registration, operator), next, 0, operator));
+        }
     }
-    Some(slot.with_next(next))
+    None
 }
 
 /// Returns the slot that waits for the earliest instant among those of the query's operators, if

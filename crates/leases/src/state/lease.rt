@@ -8,13 +8,13 @@ ghost use Rattle.leases.specs.Turns.{IsNext, IsTurnOf, Leases, lease_fault};
 
 use crate::leased::Leased;
 use crate::limits::{LEASE_NUMBERS, MAX_LEASES};
-use crate::state::State;
+use crate::state::EngineState;
 use reference::{Fault, turn_fault};
 use run_queue::Slot;
 use std::alloc::AllocError;
-use turn::{Node, SharedItem, SharedNear, Turn};
+use turn::{SharedExcerpt, SharedItem, Turn, TurnNode};
 
-impl State {
+impl EngineState {
     /// Hands out a turn of at most `rows` rows of an operator of greatest slope, if any may take
     /// something.
     pub(crate) fn lease(&mut self, rows: u32) -> Result<Leased, Fault>
@@ -83,7 +83,7 @@ impl State {
         let side = slot.side();
         let running = self.running(query);
         let (item, near) = running.lease(self.alloc, &self.streams, operator, side, rows)?;
-        let node = Node {
+        let node = TurnNode {
             query,
             operator,
             side,
@@ -93,7 +93,7 @@ impl State {
             lease: self.next,
             node,
             item: SharedItem::new(self.alloc, item)?,
-            near: SharedNear::new(self.alloc, near)?,
+            near: SharedExcerpt::new(self.alloc, near)?,
         })
     }
 }

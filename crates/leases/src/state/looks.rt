@@ -14,7 +14,7 @@ ghost use Rattle.leases.specs.Views.{query_of};
 
 use crate::registered::Registration;
 use crate::remains::Remains;
-use crate::state::State;
+use crate::state::EngineState;
 use crate::undropped::Undropped;
 use column::Side;
 use envelope::Slope;
@@ -24,16 +24,16 @@ use run_queue::{RunQueue, Slot};
 use std::alloc::Global;
 use stream_store::Streams;
 
-impl State {
+impl EngineState {
     ghost use Rattle.leases.specs.Sound.{IsSound};
     ghost use Rattle.leases.specs.Views.{empty_engine};
 
     /// Makes a state with no stream and no query.
-    pub(crate) fn new(alloc: Global) -> State
+    pub(crate) fn new(alloc: Global) -> EngineState
         ensures empty { engine_in result ≡ empty_engine }
         ensures sound { IsSound result }
     {
-        State {
+        EngineState {
             alloc,
             streams: Streams::new(alloc),
             undropped: Undropped::new(alloc),

@@ -11,9 +11,9 @@ ghost use Rattle.leases.specs.Sound.{IsSound};
 ghost use Rattle.leases.specs.Views.{query_of};
 
 use crate::opening::Opening;
-use crate::registered::{Place, Registration};
+use crate::registered::{Registration, SourcePlace};
 use crate::remains::Remains;
-use crate::state::State;
+use crate::state::EngineState;
 use crate::state::forget::{KeptRows, restart};
 use envelope::Slope;
 use query_runtime::WaitingAnswers;
@@ -22,7 +22,7 @@ use std::snapshot::Snapshot;
 use std::sync::Arc;
 use stream_store::{Stored, Streams};
 
-impl State {
+impl EngineState {
     /// Copies what `forget` would leave of streams and queries. It costs the rows that are held
     /// times the windows over their streams, plus the waiting answers, plus the queries.
     ///
@@ -123,7 +123,7 @@ fn copied_slopes(alloc: Global, slopes: &[Slope]) -> Result<Vec<Slope>, AllocErr
 }
 
 /// Copies the sources.
-fn copied_places(alloc: Global, places: &[Place]) -> Result<Vec<Place>, AllocError>
+fn copied_places(alloc: Global, places: &[SourcePlace]) -> Result<Vec<SourcePlace>, AllocError>
     ensures { IfOk result (λ v. v.items ≡ places.now) }
 {
     let mut copy = Vec::new(alloc);

@@ -14,14 +14,14 @@ ghost use Rattle.leases.specs.Views.{remains_of};
 
 use crate::limits::LEASE_NUMBERS;
 use crate::remains::Remains;
-use crate::state::State;
+use crate::state::EngineState;
 use run_queue::Slot;
 use std::alloc::AllocError;
 
 /// Says how many instants are worth a pass; fewer go turn by turn.
 pub(crate) const FEW_INSTANTS: u64 = 4;
 
-impl State {
+impl EngineState {
     /// Lets the first slot's query pass the instants at which it has nothing to do. It does so if
     /// they are more than a few and no turn is out. Returns whether it has. A pass takes one
     /// number.

@@ -28,10 +28,10 @@ ghost use Rattle.leases.specs.Shown.{engine_in, world_in};
 ghost use Rattle.leases.specs.Sound.{IsSound};
 ghost use Rattle.leases.specs.Views.{place_of, query_of};
 
-use crate::reader::Reader;
-use crate::registered::{Place, Registration};
+use crate::reader::WindowReader;
+use crate::registered::{Registration, SourcePlace};
 use crate::remains::Remains;
-use crate::state::State;
+use crate::state::EngineState;
 use envelope::Slope;
 use plan::{Chart, Node, Plan, slopes};
 use query_runtime::RunningQuery;
@@ -42,7 +42,7 @@ use std::snapshot::Snapshot;
 use std::sync::Arc;
 use stream_store::Streams;
 
-impl State {
+impl EngineState {
     /// Registers a query and returns its number.
     pub(crate) fn query(
         &mut self,
@@ -189,14 +189,18 @@ fn first_for(alloc: Global, streams: &Streams, numbers: &[usize]) -> Result<u64,
 }
 
 /// Makes the sources of a query that is being registered over the streams with these numbers.
-fn places_of(alloc: Global, streams: &Streams, numbers: &[usize]) -> Result<Vec<Place>, AllocError>
+fn places_of(
+    alloc: Global,
+    streams: &Streams,
+    numbers: &[usize],
+) -> Result<Vec<SourcePlace>, AllocError>
     ensures { IfOk result (λ v. map place_of v.items
         ≡ map (place_at (machine_of streams.now)) numbers.now) }
 {
     let mut places = Vec::new(alloc);
     for number in numbers {
         let stream = *number as u64;
-        places.push(Place {
+        places.push(SourcePlace {
             stream,
             arrivals: streams.arrivals(stream),
         })?;
@@ -205,7 +209,7 @@ fn places_of(alloc: Global, streams: &Streams, numbers: &[usize]) -> Result<Vec<
 }
 
 /// Returns the numbers of the sources' streams.
-fn numbers_of(alloc: Global, places: &[Place]) -> Result<Vec<u64>, AllocError>
+fn numbers_of(alloc: Global, places: &[SourcePlace]) -> Result<Vec<u64>, AllocError>
     ensures { IfOk result (λ v. v.items ≡ map (λ p. (place_of p).stream) places.now) }
 {
     let mut numbers = Vec::new(alloc);
@@ -216,7 +220,7 @@ fn numbers_of(alloc: Global, places: &[Place]) -> Result<Vec<u64>, AllocError>
 }
 
 /// Returns how many rows had come to each source's stream.
-fn lengths_of(alloc: Global, places: &[Place]) -> Result<Vec<u64>, AllocError>
+fn lengths_of(alloc: Global, places: &[SourcePlace]) -> Result<Vec<u64>, AllocError>
     ensures { IfOk result (λ v. v.items ≡ map (λ p. (place_of p).arrivals) places.now) }
 {
     let mut lengths = Vec::new(alloc);
@@ -230,7 +234,7 @@ fn lengths_of(alloc: Global, places: &[Place]) -> Result<Vec<u64>, AllocError>
 fn running_of(
     alloc: Global,
     plan: &Plan,
-    places: &[Place],
+    places: &[SourcePlace],
     first: u64,
 ) -> Result<RunningQuery, AllocError>
     requires { MayMake plan.now.meaning.windows.items plan.now.widths.items plan.now.nodes.items }
@@ -249,7 +253,7 @@ fn registration(
     alloc: Global,
     name: &str,
     plan: Plan,
-    places: Vec<Place>,
+    places: Vec<SourcePlace>,
     first: u64,
 ) -> Result<Registration, AllocError>
     requires { first ≤ all_instants }
@@ -327,7 +331,7 @@ fn new_slot(
 }
 
 /// Appends the windows of a new query to the readers. There is room for them.
-fn put_readers(readers: &mut Vec<Reader>, query: &Registration, number: u64)
+fn put_readers(readers: &mut Vec<WindowReader>, query: &Registration, number: u64)
     requires room { vec_len readers.old + length (query_of query.now).nodes
         ≤ vec_capacity readers.old }
     requires sources { (k : ℕ) → k < length (query_of query.now).nodes
@@ -344,14 +348,14 @@ fn put_readers(readers: &mut Vec<Reader>, query: &Registration, number: u64)
 }
 
 /// Makes a reader of the operator of the query with this number, if it is a window.
-fn reader_of(query: &Registration, number: u64, operator: usize) -> Option<Reader>
+fn reader_of(query: &Registration, number: u64, operator: usize) -> Option<WindowReader>
     requires within { operator < length (query_of query.now).nodes }
     requires source { HasSource (query_of query.now) (node_at (query_of query.now) operator) }
     ensures { result
         ≡ reader_in (query_of query.now) number operator (node_at (query_of query.now) operator) }
 {
     match &query.nodes()[operator] {
-        Node::Window(source) => Some(Reader {
+        Node::Window(source) => Some(WindowReader {
             stream: query.places[*source].stream,
             query: number,
             operator,

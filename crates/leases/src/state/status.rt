@@ -15,13 +15,13 @@ ghost use Rattle.leases.specs.Views.{query_of, remains_of};
 use crate::reach::Reach;
 use crate::registered::Registration;
 use crate::remains::Remains;
-use crate::state::State;
+use crate::state::EngineState;
 use crate::state::forget::next_behind;
 use reference::{QueryStatus, Status, StreamStatus};
 use std::alloc::{AllocError, Global};
 use stream_store::Stored;
 
-impl State {
+impl EngineState {
     /// Says how far all undropped queries and all streams are. It costs a look at each stream and
     /// at each query that was ever registered, and nothing for what waits.
     ///

@@ -19,16 +19,16 @@ ghost use Rattle.leases.specs.Views.{query_of, remains_of};
 
 use crate::registered::Registration;
 use crate::remains::Remains;
-use crate::state::State;
+use crate::state::EngineState;
 use envelope::Slope;
-use plan::{Kind, Node};
+use plan::{Node, NodeKind};
 use query_runtime::RunningQuery;
 use reference::{Fault, paired, take_fault};
 use std::alloc::{AllocError, Global};
 use stream_store::Streams;
 use values::Row;
 
-impl State {
+impl EngineState {
     /// Hands out the first answers that wait, at most `limit`.
     pub(crate) fn take(&mut self, query: u64, limit: i64) -> Result<Vec<(i64, Row)>, Fault>
         requires { IsSound self.old }
@@ -124,7 +124,7 @@ impl State {
 
     /// Returns what each operator of a query does, and its slope.
     #[tactic(auto, unfolding(reference::specs::World::slopes_at))]
-    pub(crate) fn slopes(&self, query: u64) -> Result<Vec<(Kind, Slope)>, Fault>
+    pub(crate) fn slopes(&self, query: u64) -> Result<Vec<(NodeKind, Slope)>, Fault>
         ensures { Looks (λ v. v.items) (slopes_at (world_in self.now) query) result }
     {
         match self.query_at(query) {
@@ -166,7 +166,7 @@ pub(super) fn count_taken(registered: &mut Registration, count: usize)
 
 /// Returns what each operator of a query does, with its slope.
 #[tactic(auto, unfolding(reference::specs::World::operators_of))]
-fn operators(alloc: Global, query: &Registration) -> Result<Vec<(Kind, Slope)>, AllocError>
+fn operators(alloc: Global, query: &Registration) -> Result<Vec<(NodeKind, Slope)>, AllocError>
     ensures { IfOk result (λ v. v.items ≡ operators_of (query_of query.now)) }
 {
     paired(alloc, query.nodes(), &query.slopes)

@@ -16,10 +16,10 @@ use crate::evaluate::bag::distinct;
 use crate::evaluate::combine::{listed, listed_row};
 use crate::evaluate::condition::field;
 use std::alloc::{AllocError, Global};
-use values::{Column, ListItem, MAX_COLUMNS, Row, Value, same_rows, value_at};
+use values::{Aggregate, ListItem, MAX_COLUMNS, Row, SourceColumn, Value, same_rows, value_at};
 
 /// Returns whether the combination has the key.
-pub(crate) fn has_key(by: &[Column], key: &Row, rows: &[&Row]) -> bool
+pub(crate) fn has_key(by: &[SourceColumn], key: &Row, rows: &[&Row]) -> bool
     requires { length by.now ≤ MAX_COLUMNS }
     ensures { result
         ≡ same_row key.now.items (relations.key_of (columns_of by.now) (lent_of rows.now)) }
@@ -30,7 +30,7 @@ pub(crate) fn has_key(by: &[Column], key: &Row, rows: &[&Row]) -> bool
 /// Returns the combinations of a group.
 pub(crate) fn members<'a>(
     alloc: Global,
-    by: &[Column],
+    by: &[SourceColumn],
     key: &Row,
     all: &[Vec<&'a Row>],
 ) -> Result<Vec<Vec<&'a Row>>, AllocError>
@@ -77,7 +77,7 @@ pub(crate) fn shown_sum(total: Option<i128>) -> Value
 }
 
 /// Returns the sum of the numbers in the column, or null if there are none.
-pub(crate) fn sum_of(column: Column, group: &[Vec<&Row>]) -> Value
+pub(crate) fn sum_of(column: SourceColumn, group: &[Vec<&Row>]) -> Value
     requires { length group.now < 2 ^ 63 }
     ensures { result
         ≡ option_map clamp_answer
@@ -113,7 +113,7 @@ pub(crate) fn greater(greatest: Value, value: Value) -> Value
 }
 
 /// Returns the least number of the column, or null if there is none.
-pub(crate) fn min_of(column: Column, group: &[Vec<&Row>]) -> Value
+pub(crate) fn min_of(column: SourceColumn, group: &[Vec<&Row>]) -> Value
     ensures { result ≡ reduce int_min (relations.numbers (column_of column) (tables_of group.now)) }
 {
     let mut least = Value::null();
@@ -124,7 +124,7 @@ pub(crate) fn min_of(column: Column, group: &[Vec<&Row>]) -> Value
 }
 
 /// Returns the greatest number of the column, or null if there is none.
-pub(crate) fn max_of(column: Column, group: &[Vec<&Row>]) -> Value
+pub(crate) fn max_of(column: SourceColumn, group: &[Vec<&Row>]) -> Value
     ensures { result ≡ reduce int_max (relations.numbers (column_of column) (tables_of group.now)) }
 {
     let mut greatest = Value::null();
@@ -135,7 +135,7 @@ pub(crate) fn max_of(column: Column, group: &[Vec<&Row>]) -> Value
 }
 
 /// Counts the numbers in the column.
-pub(crate) fn count_of(column: Column, group: &[Vec<&Row>]) -> usize
+pub(crate) fn count_of(column: SourceColumn, group: &[Vec<&Row>]) -> usize
     ensures value { result ≡ length (relations.numbers (column_of column) (tables_of group.now)) }
     ensures bound { result ≤ length group.now }
 {
@@ -148,6 +148,21 @@ pub(crate) fn count_of(column: Column, group: &[Vec<&Row>]) -> usize
     count
 }
 
+/// Returns the aggregate of the column's numbers.
+pub(crate) fn aggregate_of(aggregate: Aggregate, column: SourceColumn, group: &[Vec<&Row>]) -> Value
+    requires { length group.now < 2 ^ 63 }
+    ensures { result
+        ≡ relations.aggregated aggregate
+        (relations.numbers (column_of column) (tables_of group.now)) }
+{
+    match aggregate {
+        Aggregate::Count => Value::answer(count_of(column, group) as i64),
+        Aggregate::Sum => sum_of(column, group),
+        Aggregate::Min => min_of(column, group),
+        Aggregate::Max => max_of(column, group),
+    }
+}
+
 /// Returns the value of an item of the list for a group.
 pub(crate) fn item_value(item: ListItem, key: &Row, group: &[Vec<&Row>]) -> Value
     requires { length group.now < 2 ^ 63 }
@@ -156,10 +171,7 @@ pub(crate) fn item_value(item: ListItem, key: &Row, group: &[Vec<&Row>]) -> Valu
     match item {
         ListItem::Key(place) => value_at(key, place),
         ListItem::CountAll => Value::answer(group.len() as i64),
-        ListItem::Count(column) => Value::answer(count_of(column, group) as i64),
-        ListItem::Sum(column) => sum_of(column, group),
-        ListItem::Min(column) => min_of(column, group),
-        ListItem::Max(column) => max_of(column, group),
+        ListItem::Of(aggregate, column) => aggregate_of(aggregate, column, group),
     }
 }
 
@@ -181,7 +193,7 @@ pub(crate) fn group_row(items: &[ListItem], key: &Row, group: &[Vec<&Row>]) -> R
 /// combination.
 pub(crate) fn keys_of(
     alloc: Global,
-    by: &[Column],
+    by: &[SourceColumn],
     all: &[Vec<&Row>],
 ) -> Result<Vec<Row>, AllocError>
     requires { length by.now ≤ MAX_COLUMNS }
@@ -201,7 +213,7 @@ pub(crate) fn keys_of(
 /// Returns the row of the list for the group of each key.
 pub(crate) fn group_rows(
     alloc: Global,
-    by: &[Column],
+    by: &[SourceColumn],
     items: &[ListItem],
     all: &[Vec<&Row>],
     keys: &[Row],
@@ -224,7 +236,7 @@ pub(crate) fn group_rows(
 /// Returns the rows of a grouped query.
 pub(crate) fn grouped(
     alloc: Global,
-    by: &[Column],
+    by: &[SourceColumn],
     items: &[ListItem],
     all: &[Vec<&Row>],
 ) -> Result<Vec<Row>, AllocError>

@@ -11,7 +11,7 @@ use crate::refusals::turn_fault;
 use crate::status::Status;
 use answer_rows::AnswerRows;
 use envelope::Slope;
-use plan::{Chart, Kind};
+use plan::{Chart, NodeKind};
 use values::Row;
 
 impl Answering for Plain {
@@ -115,7 +115,7 @@ impl Answering for Plain {
     fn tidy(&mut self) {}
 
     #[tactic(auto, unfolding(crate::specs::World::slopes_at))]
-    fn slopes(&self, query: u64) -> Result<Vec<(Kind, Slope)>, Fault> {
+    fn slopes(&self, query: u64) -> Result<Vec<(NodeKind, Slope)>, Fault> {
         match self.query_at(query) {
             Some(query) => Ok(query.operators(self.alloc)?),
             None => Err(Fault::UnknownQuery),

@@ -1,5 +1,5 @@
 //! Makes and changes a registered query.
-ghost use Rattle.std.specs.Prelude.{◌≡◌, ◌≤◌, ◌<◌, ◌+◌, ◌^◌, ◌++◌, [], IfOk, OnOk, OnErr, length};
+ghost use Rattle.std.specs.Prelude.{◌≡◌, ◌≤◌, ◌<◌, ◌+◌, ◌++◌, [], IfOk, OnOk, OnErr, length};
 ghost use Rattle.std.specs.Prelude.{min, take, drop, vec_len, vec_capacity, string_bytes, true};
 ghost use Rattle.reference.specs.Inputs.{are_signed};
 ghost use Rattle.std.specs.VecDeque.{deque_len};
@@ -163,10 +163,10 @@ pub fn move_front(waiting: &mut VecDeque<(u64, Row)>, rows: &mut Vec<(i64, Row)>
     ensures instants_stay { are_signed (pairs_of waiting.new.items) ≡ true }
 {
     for _ in 0..count {
-        match waiting.pop_front() {
-            Some((at, row)) => rows.push_reserved((at as i64, row)),
-            None => unreachable!(),
-        }
+        let Some((at, row)) = waiting.pop_front() else {
+            break;
+        };
+        rows.push_reserved((at as i64, row));
     }
 }
 

@@ -8,13 +8,13 @@ ghost use Rattle.reference.specs.World.{operators_of};
 
 use crate::standing::StandingQuery;
 use envelope::Slope;
-use plan::{Kind, Node, slopes};
+use plan::{Node, NodeKind, slopes};
 use std::alloc::{AllocError, Global};
 
 impl StandingQuery {
     /// Returns what each of its operators does, and its slope.
     #[tactic(auto, unfolding(crate::specs::World::operators_of))]
-    pub(crate) fn operators(&self, alloc: Global) -> Result<Vec<(Kind, Slope)>, AllocError>
+    pub(crate) fn operators(&self, alloc: Global) -> Result<Vec<(NodeKind, Slope)>, AllocError>
         ensures { IfOk result (λ v. v.items ≡ operators_of (query_of self.now)) }
     {
         let slopes = slopes(alloc, &self.plan)?;
@@ -30,7 +30,7 @@ pub fn paired(
     alloc: Global,
     nodes: &[Node],
     slopes: &[Slope],
-) -> Result<Vec<(Kind, Slope)>, AllocError>
+) -> Result<Vec<(NodeKind, Slope)>, AllocError>
     ensures { IfOk result (λ v. v.items ≡ zip (map kind_of (nodes_of nodes.now)) slopes.now) }
 {
     let mut operators = Vec::new(alloc);

@@ -1,5 +1,5 @@
-use Rattle.std.proofs.Common.{◌≡◌, ◌∙◌, ap₂, sym, refl, List, Option, ℤ}
-use Rattle.answer_rows.specs.declared.Head.{Head}
+use Rattle.std.proofs.Common.{◌∙◌, ap₂, sym, refl, List, Option, ℤ}
+use Rattle.answer_rows.specs.declared.AnswerHead.{AnswerHead}
 use Rattle.answer_rows.specs.Rows.{rows_from}
 use Rattle.answer_rows.proofs.RowLemmas.{same-parts}
 use Rattle.answer_rows.proofs.AnswerRows.is_same.Goals as goal
@@ -19,7 +19,7 @@ returns c =
     let values = rw (c.deref-3.ensures.value, c.deref-4.ensures.value) at c.same_values.ensures in (
       λ t.
           sym c.self.view_is
-          ∙ ap₂ (λ (hs : List Head) (vs : List (Option ℤ)). rows_from 0 hs vs) (heads.0 refl) (values.0 t)
+          ∙ ap₂ (λ (hs : List AnswerHead) (vs : List (Option ℤ)). rows_from 0 hs vs) (heads.0 refl) (values.0 t)
           ∙ c.other.view_is,
       λ e. values.1 (same-parts 0 a.heads.items b.heads.items a.values.items b.values.items c.self.invariant c.other.invariant (c.self.view_is ∙ e ∙ sym c.other.view_is)).1,
     )

@@ -2,13 +2,13 @@ use Rattle.std.proofs.Common.{◌≡◌, true, false, sym, ap, ◌∙◌}
 use Rattle.std.proofs.lemmas.Bool.{and_left, or_left, or_from}
 use Rattle.cql_reader.proofs.Steps.{firsts_at_read, firsts_at_rule, firsts_at_emit, firsts_end, true_and, false_or}
 use Rattle.cql_reader.specs.Prediction.{has, first, nullable, same_kind}
-use Rattle.cql_reader.specs.declared.tokens.Kind.{Kind}
+use Rattle.cql_reader.specs.declared.tokens.TokenKind.{TokenKind}
 use Rattle.cql_reader.proofs.choice.begins.Goals as goal
 use Rattle.cql_reader.proofs.choice.begins.Goals.{in-Rule+else-has_kind+else-not-may_be_missing, in-Emit}
 
 pub returns-in-Read : goal.returns-in-Read
 returns-in-Read c =
-    c.eq.ensures ∙ ap (λ (k : Kind). same_kind k c.args.kind) c.kind_of_role.ensures ∙ sym (firsts_at_read c.args.symbols.now c.args.kind c.loop-symbol.symbol-index _ _ c.loop-symbol-test.true c.in-Read.is) ∙ c.loop-symbol.invariant
+    c.eq.ensures ∙ ap (λ (k : TokenKind). same_kind k c.args.kind) c.kind_of_role.ensures ∙ sym (firsts_at_read c.args.symbols.now c.args.kind c.loop-symbol.symbol-index _ _ c.loop-symbol-test.true c.in-Read.is) ∙ c.loop-symbol.invariant
 
 pub returns-then-has_kind : goal.returns-then-has_kind
 returns-then-has_kind c =

@@ -1,7 +1,7 @@
 use Rattle.std.proofs.Common.{◌≡◌, ◌++◌, List, [], Option, None, refl, ap, sym, ◌∙◌, subst, arith, reverse}
 use Rattle.std.proofs.lemmas.Result.{err_from_is_err_and}
 use Rattle.cql_reader.specs.declared.symbols.Symbol.{Symbol}
-use Rattle.cql_reader.specs.declared.tokens.Kind.{Kind}
+use Rattle.cql_reader.specs.declared.tokens.TokenKind.{TokenKind}
 use Rattle.cql_reader.specs.declared.tokens.Token.{Token as CodedToken}
 use Rattle.cql_reader.specs.declared.ReadFault.{ReadFault}
 use Rattle.cql_reader.specs.Tokens.{scan_from}
@@ -97,7 +97,7 @@ returns-in-None c =
     let d = draft_of c.loop-symbol.draft in
     let rest = rest_of text c.loop-symbol.next in
     let r = runs_same _ _ d d rest rest _ e refl refl c.loop-symbol.invariant.runs in
-    let h : chosen c.in-Rule.part (ahead rest) ≡ None = ap (λ (n : Option Kind). chosen c.in-Rule.part n) (sym c.kind_ahead.ensures) ∙ c.in-None.ensures in
+    let h : chosen c.in-Rule.part (ahead rest) ≡ None = ap (λ (n : Option TokenKind). chosen c.in-Rule.part n) (sym c.kind_ahead.ensures) ∙ c.in-None.ensures in
     let t = told_tells (parsed (scan_from text 0)) (stopped rest) (stops_rule c.in-Rule.part _ d rest _ h r) in
     subst (λ (v : ReadFault). Tells (parsed (scan_from text 0)) v) (sym c.unexpected.ensures) t
 
@@ -116,7 +116,7 @@ loop-symbol-preserved c =
     let d = draft_of c.loop-symbol.draft in
     let rest = rest_of text c.loop-symbol.next in
     let r = runs_same _ _ d d rest rest _ e refl refl c.loop-symbol.invariant.runs in
-    let h = ap (λ (n : Option Kind). chosen c.in-Rule.part n) (sym c.kind_ahead.ensures) ∙ c.in-Some-choose.ensures in
+    let h = ap (λ (n : Option TokenKind). chosen c.in-Rule.part n) (sym c.kind_ahead.ensures) ∙ c.in-Some-choose.ensures in
     record {
       inside = c.loop-symbol.invariant.inside;
       runs = runs_same _ _ d d rest rest _ (sym c.in_ok-push_all-in-Some-choose.ensures) refl refl (runs_rule c.in-Rule.part _ _ d rest _ h r);

@@ -12,5 +12,5 @@ returns-else-is_some_reference c =
     let q = query_of c.args.query.now in
     let group : false ≡ is_some_reference q.group =
     sym c.if-is_some_reference.false ∙ c.is_some_reference.ensures ∙ ap (λ (rs : List Reference). is_some_reference (references_of rs)) c.deref.ensures.value in
-    c.has_aggregate.ensures ∙ sym (any_map is_aggregate entry_of c.entry_list.result.now) ∙ ap (λ (es : List syntax.Entry). list_any is_aggregate es) c.entry_list.ensures
+    c.has_aggregate.ensures ∙ sym (any_map is_aggregate entry_of c.entry_list.result.now) ∙ ap (λ (es : List syntax.WrittenEntry). list_any is_aggregate es) c.entry_list.ensures
     ∙ ap (λ (b : Bool). b || list_any is_aggregate (entry_list q.entries)) group

@@ -1,5 +1,5 @@
 use Rattle.std.proofs.Common.{◌≡◌, ◌∙◌, ◌&&◌, Bool, List, map, true, sym, ap}
-use Rattle.values.specs.Condition.{Column}
+use Rattle.values.specs.Condition.{SourceColumn}
 use Rattle.cql_reader.specs.Views as syntax
 use Rattle.names.specs.Matches.{column_of}
 use Rattle.names.specs.Resolved as spec
@@ -12,5 +12,5 @@ returns-then-is_grouped c =
     let ts = tables_of c.args.tables.now in
     let q = syntax.query_of c.args.query.now in
     let grouped : true ≡ spec.is_grouped q = sym c.if-is_grouped.true ∙ c.is_grouped.ensures in
-    c.has_outside.ensures ∙ ap (λ (by : List Column). faults.has_outside ts by q.entries) c.requires
+    c.has_outside.ensures ∙ ap (λ (by : List SourceColumn). faults.has_outside ts by q.entries) c.requires
     ∙ ap (λ (b : Bool). b && faults.has_outside ts (map (column_of ts) q.group) q.entries) grouped

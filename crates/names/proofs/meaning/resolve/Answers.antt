@@ -5,7 +5,7 @@ use Rattle.values.specs.declared.TheConstants.{MAX_COLUMNS}
 use Rattle.values.specs.Answers as answers
 use Rattle.values.specs.Resolved.{resolved_of, window_of}
 use Rattle.cql_reader.specs.Views.{query_of, source_of, sources_of}
-use Rattle.cql_reader.specs.declared.query.Source.{Source}
+use Rattle.cql_reader.specs.declared.query.WrittenSource.{WrittenSource}
 use Rattle.names.specs.declared.matching.Table as code
 use Rattle.names.specs.Matches.{Table, tables}
 use Rattle.names.specs.Faults.{first_fault}
@@ -18,7 +18,7 @@ use Rattle.names.proofs.meaning.resolve.Goals as goal
 pub named_of-requires-clause-sources : goal.named_of-requires-clause-sources
 named_of-requires-clause-sources c =
     let t : views.tables_of c.in_ok-tables.tables.items ≡ tables c.args.catalog.now (query_of c.args.query.now).sources =
-    c.in_ok-tables.ensures ∙ ap (λ (ss : List Source). tables c.args.catalog.now (sources_of ss)) c.deref.ensures.value in
+    c.in_ok-tables.ensures ∙ ap (λ (ss : List WrittenSource). tables c.args.catalog.now (sources_of ss)) c.deref.ensures.value in
     ap length c.deref-7.ensures.value ∙ count_is c.in_ok-tables.tables.items c.args.catalog.now c.args.query.now.sources.items t
 
 no_fault : (c : goal.After-drop-tables-2) → Accepted (query_of c.args.query.now) c.args.catalog.now
@@ -30,7 +30,7 @@ pub returns-clause-meaning : goal.returns-clause-meaning
 returns-clause-meaning c =
     let q = query_of c.args.query.now in
     let t : views.tables_of c.in_ok-tables.tables.items ≡ tables c.args.catalog.now q.sources =
-    c.in_ok-tables.ensures ∙ ap (λ (ss : List Source). tables c.args.catalog.now (sources_of ss)) c.deref.ensures.value in
+    c.in_ok-tables.ensures ∙ ap (λ (ss : List WrittenSource). tables c.args.catalog.now (sources_of ss)) c.deref.ensures.value in
     meaning_is (views.tables_of c.in_ok-tables.tables.items) q c.args.catalog.now (resolved_of c.in_ok-named_of.field-0.meaning) t
     (c.in_ok-named_of.ensures.meaning ∙ ap (λ (ts : List code.Table). views.resolved_in (views.tables_of ts) q) c.deref-7.ensures.value)
 
@@ -41,7 +41,7 @@ widths_are : (c : goal.After-drop-tables-2) → c.in_ok-named_of.field-0.widths.
 widths_are c =
     c.in_ok-named_of.ensures.widths ∙ ap (λ (ts : List code.Table). map (λ t. length t.columns) (views.tables_of ts)) c.deref-7.ensures.value
     ∙ ap (λ (ts : List Table). map (λ t. length t.columns) ts)
-    (c.in_ok-tables.ensures ∙ ap (λ (ss : List Source). tables c.args.catalog.now (sources_of ss)) c.deref.ensures.value)
+    (c.in_ok-tables.ensures ∙ ap (λ (ss : List WrittenSource). tables c.args.catalog.now (sources_of ss)) c.deref.ensures.value)
 
 pub returns-clause-counts : goal.returns-clause-counts
 returns-clause-counts c =

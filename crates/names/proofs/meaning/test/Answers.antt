@@ -4,7 +4,7 @@ use Rattle.std.specs.Option.{is_none}
 use Rattle.std.proofs.lemmas.List.{length-map}
 use Rattle.values.specs.Resolved.{where_of}
 use Rattle.cql_reader.specs.Views.{query_of, source_of, sources_of}
-use Rattle.cql_reader.specs.declared.query.Source.{Source}
+use Rattle.cql_reader.specs.declared.query.WrittenSource.{WrittenSource}
 use Rattle.names.specs.Catalog.{number_in}
 use Rattle.names.specs.Matches.{Table, name_of, tables}
 use Rattle.names.specs.Resolved.{resolved}
@@ -25,12 +25,12 @@ returns c =
     let items = c.args.query.now.sources.items in
     let ts = tables_of c.args.tables.now in
     let unknown : c.has_unknown_stream.result ≡ list_any (λ s. is_none (number_in catalog s.stream)) q.sources =
-    c.has_unknown_stream.ensures ∙ ap (λ (ss : List Source). list_any (λ s. is_none (number_in catalog (source_of s).stream)) ss) c.deref.ensures.value
+    c.has_unknown_stream.ensures ∙ ap (λ (ss : List WrittenSource). list_any (λ s. is_none (number_in catalog (source_of s).stream)) ss) c.deref.ensures.value
     ∙ sym (any_map (λ s. is_none (number_in catalog s.stream)) source_of items) in
     let verdict : c.judge_query-verdict.result ≡ verdict_of (faults.all_matches q catalog) =
     verdict_is ts q catalog c.judge_query-verdict.result c.requires.tables c.judge_query-verdict.ensures in
     let repeat : c.has_repeat.result ≡ faults.has_repeat (map name_of q.sources) =
-    c.has_repeat.ensures ∙ ap (λ (ss : List Source). faults.has_repeat (map name_of (sources_of ss))) c.deref-2.ensures.value in
+    c.has_repeat.ensures ∙ ap (λ (ss : List WrittenSource). faults.has_repeat (map name_of (sources_of ss))) c.deref-2.ensures.value in
     let count : c.len.result ≡ length q.sources = omega (arith, c.len.ensures, length-map items source_of) in
     let key : c.lacks_key.result ≡ faults.lacks_key (length q.sources) (all_conjuncts (resolved q catalog).condition) =
     c.lacks_key.ensures ∙ ap (λ (n : ℕ). faults.lacks_key n (all_conjuncts (where_of c.args.condition.now))) count

@@ -1,4 +1,4 @@
-use Rattle.std.proofs.Common.{◌≡◌, ◌≤◌, ◌+◌, ◌-◌, ◌++◌, drop, length, take, vec_len, vec_capacity, true}
+use Rattle.std.proofs.Common.{◌≡◌, ◌≤◌, ◌+◌, ◌-◌, ◌++◌, drop, take, vec_len, vec_capacity, true}
 use Rattle.reference.specs.CallViews.{handed_of}
 use Rattle.reference.specs.Inputs.{are_signed}
 use Rattle.reference.specs.World.{handed}
@@ -9,7 +9,6 @@ abbrev pub invariant-loop : goal.invariant-loop
 invariant-loop l = record {
   rows : handed_of l.rows.items ++ handed (take (l.count - l.counter) l.answers) ≡ handed_of l.initial.rows.items ++ handed (take l.count l.initial.answers);
   rest : l.answers ≡ drop l.counter l.initial.answers;
-  len : length l.answers + l.counter ≡ length l.initial.answers;
   room : vec_len l.rows + (l.count - l.counter) ≤ vec_capacity l.rows;
   instants : are_signed l.answers ≡ true;
 }

@@ -2,7 +2,7 @@ use Rattle.std.proofs.Common.{◌∙◌, ap, sym}
 use Rattle.std.specs.List.{flat_map}
 use Rattle.op_queue.specs.Items.{entries_of}
 use Rattle.op_queue.specs.declared.item.Item.TheVariants.{Tick}
-use Rattle.windows.specs.Slide.{SlideNear, out}
+use Rattle.windows.specs.Slide.{SlideExcerpt, out}
 use Rattle.windows.proofs.TableLemmas.{slide_out}
 use Rattle.windows.proofs.slide.slide_work.Goals as goal
 
@@ -11,5 +11,5 @@ returns-in_ok-add-in-Tick c =
     let n = c.near.inside in
     slide_out c.in-Tick.at n.leave n.pass n.enter (flat_map entries_of c.new-outputs.result.items) _ _ _ (ap (flat_map entries_of) c.new-outputs.ensures.items)
     c.in_ok-add_rows-in-Tick.ensures c.in_ok-add_rows-in-Tick-2.ensures c.in_ok-add-in-Tick.ensures
-    ∙ ap (λ (m : SlideNear). out (Tick c.in-Tick.at) m) c.near.view_is
+    ∙ ap (λ (m : SlideExcerpt). out (Tick c.in-Tick.at) m) c.near.view_is
     ∙ sym (ap (λ i. out i c.args.near.now) c.in-Tick.is)

@@ -1,6 +1,6 @@
 use Rattle.std.proofs.Common.{◌∙◌, ◌++◌, ◌∷◌, [], ℕ, List, sym, ap, arith}
 use Rattle.std.proofs.lemmas.List.FromFn.{map-range_with_len_more}
-use Rattle.values.specs.declared.resolved.Column.{Column}
+use Rattle.values.specs.declared.resolved.SourceColumn.{SourceColumn}
 use Rattle.values.specs.declared.resolved.ListItem.{ListItem}
 use Rattle.values.specs.declared.resolved.ListItem.TheVariants.{Key}
 use Rattle.group.specs.Groups.{column_at}
@@ -12,7 +12,7 @@ loop-column-preserved c =
     record {
       by =
           c.in_ok-push.ensures.items
-          ∙ ap (λ (vs : List Column). vs ++ column_at n ∷ []) c.loop-column.invariant.by
+          ∙ ap (λ (vs : List SourceColumn). vs ++ column_at n ∷ []) c.loop-column.invariant.by
           ∙ sym (map-range_with_len_more column_at 0 n n (omega arith));
       items =
           c.in_ok-push-2.ensures.items

@@ -4,7 +4,7 @@ use Rattle.laws_engine.proofs.PromiseLemmas.{keeps_its_promises}
 use Rattle.reference.specs.World.{Drains, drain_step}
 use Rattle.leases.specs.Shown.{engine_in, world_in}
 use Rattle.leases.specs.Whole.{HasNumbers, IsWhole}
-use Rattle.leases.specs.declared.state.State.{State}
+use Rattle.leases.specs.declared.state.EngineState.{EngineState}
 use Rattle.leases.specs.declared.limits.TheConstants.{LEASE_NUMBERS}
 use Rattle.leases.proofs.ByQueryLemmas.{by_query_does, by_query_gives, by_query_machine, wants_all}
 use Rattle.leases.proofs.NumberLemmas.{spent}
@@ -43,4 +43,4 @@ returns-clause-spent g c =
 pub returns-clause-machine : goal.returns-clause-machine
 returns-clause-machine g c =
     by_query_machine (engine_in c.self.inside.state) (engine_in c.drain_by_query.new.self) c.args.rows c.drain_by_query.result c.drain_by_query.ensures.runs
-    ∙ ap (λ (s : State). (engine_in s).machine) c.self.view_is
+    ∙ ap (λ (s : EngineState). (engine_in s).machine) c.self.view_is

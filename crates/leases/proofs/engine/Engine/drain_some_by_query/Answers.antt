@@ -10,7 +10,7 @@ use Rattle.leases.specs.Drains.{as_drained}
 use Rattle.leases.specs.Shown.{engine_in}
 use Rattle.leases.specs.Turns.{HasReady}
 use Rattle.leases.specs.Whole.{HasNumbers}
-use Rattle.leases.specs.declared.state.State.{State}
+use Rattle.leases.specs.declared.state.EngineState.{EngineState}
 use Rattle.leases.proofs.engine.Engine.drain_some_by_query.Goals as goal
 
 pub returns-clause-some : goal.returns-clause-some
@@ -24,7 +24,7 @@ returns-clause-all g c = λ is. idle_waits (engine_in c.drain_some_by_query.new.
 pub returns-clause-machine : goal.returns-clause-machine
 returns-clause-machine g c =
     by_query_machine (engine_in c.self.inside.state) (engine_in c.drain_some_by_query.new.self) c.args.rows (as_drained c.drain_some_by_query.result) c.drain_some_by_query.ensures.runs
-    ∙ ap (λ (s : State). (engine_in s).machine) c.self.view_is
+    ∙ ap (λ (s : EngineState). (engine_in s).machine) c.self.view_is
 
 pub returns-clause-spent : goal.returns-clause-spent
 returns-clause-spent g c =

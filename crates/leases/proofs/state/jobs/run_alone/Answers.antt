@@ -1,10 +1,9 @@
 -- After some steps of its own the query may still run by itself.
 use Rattle.std.proofs.Common.{◌≡◌, ◌+◌, ◌++◌, ◌∷◌, [], ℕ, length, refl, ap, subst, arith, length-append}
-use Rattle.laws_queries.specs.Queries.{PlainQuery}
-use Rattle.leases.specs.Alone.{HasStoppedOwn, MayRunAlone, OwnStep}
+use Rattle.leases.specs.Alone.{HasStoppedOwn, OwnStep}
 use Rattle.operators.specs.declared.runs.Refused.TheVariants.{Within}
 use Rattle.leases.specs.Views.{query_of}
-use Rattle.leases.proofs.AloneLemmas.{alone_has, alone_mark, alone_on, alone_runs, alone_same, one_more_own}
+use Rattle.leases.proofs.AloneLemmas.{alone_has, alone_mark, alone_on, alone_runs, one_more_own}
 use Rattle.leases.proofs.state.jobs.run_alone.Goals as goal
 
 pub next_ready-requires-clause-may : goal.next_ready-requires-clause-may
@@ -27,12 +26,10 @@ run_step-requires-clause-may c =
       may = alone_runs c.args.streams.now (query_of c.args.registration.now) c.turns.query may c.in-Some.slot c.args.quota.rows c.requires.quota.some c.in-Some.ensures;
     }
 
-pub again-next-requires : goal.again-next-requires
-again-next-requires c =
+pub next_above-next-requires : goal.next_above-next-requires
+next_above-next-requires c =
     let may = alone_on c.args.streams.now (query_of c.args.registration.now) c.args.query.now c.requires.may c.args.quota.rows c.turns.invariant.ran.0 c.turns.query c.turns.invariant.ran.1.0 in
-    let more = alone_on c.args.streams.now (query_of c.args.registration.now) c.turns.query may c.args.quota.rows (c.in-Ok.ensures.ok.0 ∷ []) c.run_step.new.query (c.run_step.new.query, (c.in-Ok.ensures.ok.1, refl)) in
-    alone_has c.args.streams.now (query_of c.args.registration.now) c.run_step.new.query more c.in-Some.slot.operator
-    (alone_same c.args.streams.now (query_of c.args.registration.now) c.turns.query c.run_step.new.query may more c.in-Some.slot.operator c.in-Some.ensures.within)
+    alone_on c.args.streams.now (query_of c.args.registration.now) c.turns.query may c.args.quota.rows (c.in-Ok.ensures.ok.0 ∷ []) c.run_step.new.query (c.run_step.new.query, (c.in-Ok.ensures.ok.1, refl))
 
 pub turns-preserved : goal.turns-preserved
 turns-preserved c =
@@ -47,7 +44,7 @@ turns-preserved c =
         ),
       );
       few = omega (arith, c.turns-test.true);
-      next = c.again-next.ensures;
+      next = c.next_above-next.ensures;
     }
 
 pub returns-in-Err-Within : goal.returns-in-Err-Within

@@ -1,4 +1,4 @@
-use Rattle.std.proofs.Common.{◌≡◌, ◌∙◌, arith, subst, sym}
+use Rattle.std.proofs.Common.{◌∙◌, arith, subst}
 use Rattle.operators.specs.Inboxes.{entries_in}
 use Rattle.operators.specs.Passing.{MayPass}
 use Rattle.operators.proofs.QuietLemmas.{none_of, none_waits}

@@ -1,6 +1,6 @@
 use Rattle.std.proofs.Common.{subst, ap, ap₂, sym, ◌∙◌, ◌≡◌, ◌-◌, ℕ, List, arith, length, map, take, drop, min, max}
 use Rattle.values.specs.Row.{Row}
-use Rattle.windows.specs.Slide.{HaveOneWidthIn, SlideNear, SlideState, near_at}
+use Rattle.windows.specs.Slide.{HaveOneWidthIn, SlideExcerpt, SlideState, near_at}
 use Rattle.windows.proofs.SlideLemmas.{Parted, count_is, near_wide, parted}
 use Rattle.windows.proofs.slide.SlideWindow.near_at.Goals as goal
 
@@ -18,9 +18,9 @@ returns-clause-value c =
     let leave = c.in_ok-leave.ensures ∙ ap (λ (j : ℕ). map f (take j s.held)) a ∙ ap (map f) p.leave in
     let pass = c.in_ok-pass.ensures ∙ ap (λ (j : ℕ). map f (take (j - s.shown) (drop s.shown s.held))) m ∙ ap (map f) p.pass in
     let enter = c.in_ok-enter.ensures ∙ ap₂ (λ (i j : ℕ). map f (take (i - j) (drop j s.held))) l m ∙ ap (map f) p.enter in
-    let with_leave : List Row → SlideNear = λ x. record { leave = x; pass = c.in_ok-pass.pass; enter = c.in_ok-enter.enter } in
-    let with_pass : List Row → SlideNear = λ x. record { leave = (near_at s c.args.at).leave; pass = x; enter = c.in_ok-enter.enter } in
-    let with_enter : List Row → SlideNear = λ x. record { leave = (near_at s c.args.at).leave; pass = (near_at s c.args.at).pass; enter = x } in
+    let with_leave : List Row → SlideExcerpt = λ x. record { leave = x; pass = c.in_ok-pass.pass; enter = c.in_ok-enter.enter } in
+    let with_pass : List Row → SlideExcerpt = λ x. record { leave = (near_at s c.args.at).leave; pass = x; enter = c.in_ok-enter.enter } in
+    let with_enter : List Row → SlideExcerpt = λ x. record { leave = (near_at s c.args.at).leave; pass = (near_at s c.args.at).pass; enter = x } in
     ap with_leave leave ∙ ap with_pass pass ∙ ap with_enter enter ∙ ap (λ (x : SlideState). near_at x c.args.at) c.self.view_is
 
 pub returns-clause-wide : goal.returns-clause-wide

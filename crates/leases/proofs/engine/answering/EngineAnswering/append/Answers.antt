@@ -11,7 +11,7 @@ use Rattle.leases.specs.Shown.{engine_in, world_in}
 use Rattle.leases.specs.Sound.{IsSound}
 use Rattle.leases.specs.Undropped.{UndroppedQueries, least}
 use Rattle.leases.specs.Whole.{HasNumbers, IsWhole}
-use Rattle.leases.specs.declared.state.State.{State}
+use Rattle.leases.specs.declared.state.EngineState.{EngineState}
 use Rattle.leases.proofs.CountedLemmas.{counted_sound}
 use Rattle.leases.proofs.LimitLemmas.{is_limit}
 use Rattle.leases.proofs.NumberLemmas.{gives_none, spent}
@@ -21,10 +21,10 @@ use Rattle.leases.proofs.WholeLemmas.{whole_same}
 use Rattle.leases.proofs.engine.answering.EngineAnswering.append.Goals as goal
 
 -- the state over these streams, and the one behind that counts the rows
-abbrev over : goal.After-count_stored → State
+abbrev over : goal.After-count_stored → EngineState
 over c = at_streams c.self.inside.state c.append-answer.new.self
 
-abbrev after : goal.After-count_stored → State
+abbrev after : goal.After-count_stored → EngineState
 after c = c.count_stored.new.self
 
 -- both are the same engine

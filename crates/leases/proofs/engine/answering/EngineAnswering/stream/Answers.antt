@@ -9,14 +9,14 @@ use Rattle.laws_engine.proofs.PromiseLemmas.{keeps_its_promises}
 use Rattle.leases.specs.Shown.{engine_in, world_in}
 use Rattle.leases.specs.Sound.{IsSound}
 use Rattle.leases.specs.Whole.{HasNumbers, IsWhole}
-use Rattle.leases.specs.declared.state.State.{State}
+use Rattle.leases.specs.declared.state.EngineState.{EngineState}
 use Rattle.leases.proofs.NumberLemmas.{gives_none, spent}
 use Rattle.leases.proofs.StreamLemmas.{at_streams, declare_changes, declare_changes_not, declare_sound}
 use Rattle.leases.proofs.WholeLemmas.{whole_same}
 use Rattle.leases.proofs.engine.answering.EngineAnswering.stream.Goals as goal
 
 -- the state afterwards
-abbrev after : goal.After-declare → State
+abbrev after : goal.After-declare → EngineState
 after c = at_streams c.self.inside.state c.declare.new.self
 
 did : (c : goal.After-declare) → Does (λ (n : ℕ). n) (world_in c.self.inside.state) (declare_step (world_in c.self.inside.state) c.args.name.now (texts_of c.args.columns.now) c.args.from) c.declare.result (world_in (after c))

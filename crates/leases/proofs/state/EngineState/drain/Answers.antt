@@ -1,0 +1,39 @@
+-- A few turns; then query by query; then turn by turn.
+use Rattle.std.proofs.Common.{◌≡◌, ◌∙◌, Err, Ok, inl, refl, sym}
+use Rattle.reference.specs.declared.fault.Fault.TheVariants.{OutOfMemory}
+use Rattle.leases.specs.ByQuery.{RunsByQuery}
+use Rattle.leases.specs.Shown.{engine_in}
+use Rattle.leases.proofs.ByQueryLemmas.{done_none, done_on, drained, failed_since, few_done, stays_whole}
+use Rattle.leases.proofs.DrainLemmas.{same_err}
+use Rattle.leases.proofs.state.EngineState.drain.Goals as goal
+
+pub returns-in_err-run_until-clause-runs : goal.returns-in_err-run_until-clause-runs
+returns-in_err-run_until-clause-runs c =
+    same_err c.from_residual.result c.in_err-run_until.field-0.0 (λ r. RunsByQuery (engine_in c.args.self.now) c.args.rows r (engine_in c.run_until.new.self)) c.from_residual.ensures.1
+    (drained (engine_in c.args.self.now) (engine_in c.args.self.now) (engine_in c.run_until.new.self) c.args.rows (Err c.in_err-run_until.field-0.0) c.requires.good (sym c.in_default.ensures.first)
+    (done_none c.args.rows (engine_in c.args.self.now) (engine_in c.args.self.now) refl) c.in_err-run_until.ensures.runs)
+
+pub returns-then-not-branch-clause-runs : goal.returns-then-not-branch-clause-runs
+returns-then-not-branch-clause-runs c =
+    (sym c.in_default.ensures.first, few_done (engine_in c.args.self.now) (engine_in c.run_until.new.self) c.args.rows c.requires.good c.in_ok-run_until.ensures.runs)
+
+pub returns-in_err-run_each-clause-runs : goal.returns-in_err-run_each-clause-runs
+returns-in_err-run_each-clause-runs c =
+    let few = few_done (engine_in c.args.self.now) (engine_in c.run_until.new.self) c.args.rows c.requires.good c.in_ok-run_until.ensures.runs in
+    same_err c.from_residual-in_err-run_each.result OutOfMemory (λ r. RunsByQuery (engine_in c.args.self.now) c.args.rows r (engine_in c.run_each.new.self)) c.from_residual-in_err-run_each.ensures.1 (
+      sym c.in_default.ensures.first,
+      inl (failed_since c.args.rows (engine_in c.args.self.now) (engine_in c.run_until.new.self) (engine_in c.run_each.new.self) few c.in_err-run_each.ensures.err),
+    )
+
+pub returns-clause-runs : goal.returns-clause-runs
+returns-clause-runs c =
+    let few = few_done (engine_in c.args.self.now) (engine_in c.run_until.new.self) c.args.rows c.requires.good c.in_ok-run_until.ensures.runs in
+    drained (engine_in c.args.self.now) (engine_in c.run_each.new.self) (engine_in c.run_turns.new.self) c.args.rows c.run_turns.result c.run_each.ensures.sound.good (sym c.in_default.ensures.first)
+    (done_on c.args.rows (engine_in c.args.self.now) (engine_in c.run_until.new.self) (engine_in c.run_each.new.self) few c.in_ok-run_each.ensures.ok) c.run_turns.ensures.runs
+
+pub returns-clause-whole : goal.returns-clause-whole
+returns-clause-whole c = λ whole had.
+    let few = few_done (engine_in c.args.self.now) (engine_in c.run_until.new.self) c.args.rows c.requires.good c.in_ok-run_until.ensures.runs in
+    c.run_turns.ensures.whole
+    (stays_whole c.args.rows (engine_in c.args.self.now) (engine_in c.run_each.new.self) c.requires.good whole (c.run_each.ensures.others ∙ c.in_ok-run_until.ensures.others)
+    (done_on c.args.rows (engine_in c.args.self.now) (engine_in c.run_until.new.self) (engine_in c.run_each.new.self) few c.in_ok-run_each.ensures.ok)) had

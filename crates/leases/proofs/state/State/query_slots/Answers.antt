@@ -1,7 +1,0 @@
-use Rattle.std.proofs.Common.{arith}
-use Rattle.leases.specs.Shown.{engine_in}
-use Rattle.leases.proofs.PassLemmas.{look_at}
-use Rattle.leases.proofs.state.State.query_slots.Goals as goal
-
-pub slot-requires : goal.slot-requires
-slot-requires c = look_at (engine_in c.args.self.now) c.args.query c.loop-operator.operator c.running.result.now c.requires c.running.ensures (omega (arith, c.loop-operator-test.true, c.len-count.ensures))

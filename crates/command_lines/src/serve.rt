@@ -62,7 +62,7 @@ pub fn serve_options<'a, S: AsStr>(alloc: Global, words: &'a [S]) -> Result<Serv
         alloc,
         "workers",
         "N",
-        "Run turns in so many threads, 1 to 64",
+        "Run turns in so many threads, 1 to 64; a long drain has as many",
     );
     let clients = threads(
         alloc,

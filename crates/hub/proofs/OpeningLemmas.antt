@@ -3,6 +3,7 @@ use Rattle.std.proofs.Common.{◌≡◌, ◌∙◌, ℕ, ◌+◌, List, [], ◌�
 use Rattle.reference.specs.Machine.{Machine, empty}
 use Rattle.laws_engine.specs.Engines.{PlainEngine}
 use Rattle.laws_engine.specs.Openings.{forgotten}
+use Rattle.laws_engine.specs.Promises.{KeepsItsPromises}
 use Rattle.histories.specs.Histories.{Entry, Replays}
 use Rattle.hub.specs.Reached.{IsReachedBy}
 use Rattle.hub.specs.Steps.{OpensAt}
@@ -11,10 +12,10 @@ pub reached_nothing : (m : Machine) → m ≡ empty → IsReachedBy 0 m
 reached_nothing m h = record { stretches = []; lead = h; count = refl }
 
 -- one forget more
-pub reached_further : (first many : ℕ) (m next : Machine) (es : List Entry) (e : PlainEngine) → IsReachedBy first m → Replays m es e.machine → next ≡ (forgotten e).machine → many ≡ first + length es → IsReachedBy many next
-reached_further first many m next es e h run is all = record {
+pub reached_further : (first many : ℕ) (m next : Machine) (es : List Entry) (e : PlainEngine) → IsReachedBy first m → Replays m es e.machine → KeepsItsPromises e → next ≡ (forgotten e).machine → many ≡ first + length es → IsReachedBy many next
+reached_further first many m next es e h run promises is all = record {
   stretches = es ∷ h.stretches;
-  lead = (m, e, h.lead, run, is);
+  lead = (m, e, h.lead, run, promises, is);
   count = ap (λ (n : ℕ). n + length es) h.count ∙ sym all;
 }
 

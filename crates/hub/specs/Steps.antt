@@ -17,7 +17,7 @@ use Rattle.laws_engine.specs.Engines.{PlainEngine, world_of}
 use Rattle.laws_engine.specs.Openings.{forgotten}
 use Rattle.laws_engine.specs.Promises.{AreCompleteUpto, HasAllWaiting}
 use Rattle.leases.specs.ByQuery.{HasRunOutBelow, RunsByQuery}
-use Rattle.leases.specs.Drains.{LeavesOthers, RunsTurns, as_drained}
+use Rattle.leases.specs.Drains.{LeavesOthers, RanOutBelow, RunsTurns, as_drained}
 use Rattle.leases.specs.Openings.{opening_in}
 use Rattle.leases.specs.Looks.{IsPending, WaitsAt, status_in_engine}
 use Rattle.leases.specs.Takes.{Peeks}
@@ -238,6 +238,8 @@ pub record DrainsSome (old : PlainLocked) (rows turns : ℕ) (result : Result Bo
   pub all : result ≡ Ok false → HasAllWaiting (engine_at new)
   pub rest : result ≡ Ok false → Hands new rows (Ok leased.Idle) new
   pub fewer : result ≡ Err TooManyLeases → (engine_at new).next < (engine_at old).next + turns
+  pub below : result ≡ Err OutOfMemory
+      → RanOutBelow rows ((engine_at old).next + turns) (engine_at old) (engine_at new)
   pub looks : turns ≡ 0 → (engine_at new ≡ engine_at old) × IfErr result (λ f. f ≡ BadLimit)
 
 -- and the same query by query: those of different queries run in any order, also at the same time

@@ -202,6 +202,7 @@ impl Locked {
     pub fn forget(&mut self) -> Result<(), Fault>
         ensures { Forgets self.old result self.new }
     {
+        let _ = self.engine.waiting(0); // for the proof
         let opening = self.engine.opening()?;
         self.engine.forget()?;
         self.first += self.history.len() as u64;

@@ -1,6 +1,10 @@
 //! Measures a history, to say when it is time to forget.
 //!
-//! No contract sees these numbers: they change when a hub forgets, and nothing else.
+//! The contracts of a hub do not see these numbers: they change when it forgets, and nothing else.
+ghost use Rattle.std.specs.Prelude.{◌≡◌, ◌<◌, ◌≤◌, ◌+◌, ◌-◌, ◌*◌, ◌/◌, ◌^◌, ◌↔◌, ◌⊎◌, []};
+ghost use Rattle.std.specs.Prelude.{IsTrue, length, max, min, slice_get};
+ghost use Rattle.std.specs.Option.{option_map_or};
+ghost use Rattle.leases.specs.Openings.{opening_in};
 
 use histories::{CommandKind, Receipt, ReplyKind};
 use leases::Opening;
@@ -33,7 +37,11 @@ pub(crate) struct HistoryMeasure {
 
 impl HistoryMeasure {
     /// Measures an empty history of at most `limit` entries.
-    pub(crate) fn new(limit: u64) -> HistoryMeasure {
+    pub(crate) fn new(limit: u64) -> HistoryMeasure
+        ensures nothing { (result.values ≡ 0) × (result.kept ≡ 0) × (result.resumes ≡ 0) }
+        ensures enough { result.enough ≡ limit - limit / 16 }
+        ensures limit { result.limit ≡ limit }
+    {
         HistoryMeasure {
             values: 0,
             kept: 0,
@@ -49,7 +57,10 @@ impl HistoryMeasure {
     }
 
     /// Returns whether it is time to forget, with a history of `entries` entries.
-    pub(crate) fn is_due(&self, values: u64, entries: u64) -> bool {
+    pub(crate) fn is_due(&self, values: u64, entries: u64) -> bool
+        ensures { IsTrue result ↔ ((self.now.enough ≤ entries)
+            ⊎ (max (max values self.now.kept) self.now.resumes ≤ self.now.values)) }
+    {
         if entries >= self.enough {
             return true;
         }
@@ -57,7 +68,11 @@ impl HistoryMeasure {
     }
 
     /// Starts again after a forget that left this opening.
-    pub(crate) fn restart(&mut self, opening: &Opening) {
+    pub(crate) fn restart(&mut self, opening: &Opening)
+        ensures nothing { (self.new.values ≡ 0) × (self.new.resumes ≡ 0) }
+        ensures enough { self.new.enough ≡ self.old.limit - self.old.limit / 16 }
+        ensures limit { self.new.limit ≡ self.old.limit }
+    {
         self.values = 0;
         self.kept = kept_in(opening);
         self.resumes = 0;
@@ -67,7 +82,16 @@ impl HistoryMeasure {
     /// Puts the next forget off: the last one ran out of memory. It is due when there are one
     /// eighth more values, and for the entries after an eighth of the last sixteenth of the limit.
     /// At the limit it stays due.
-    pub(crate) fn put_off(&mut self, entries: u64) {
+    pub(crate) fn put_off(&mut self, entries: u64)
+        ensures values { self.new.values ≡ self.old.values }
+        ensures kept { self.new.kept ≡ self.old.kept }
+        ensures resumes { self.new.resumes
+            ≡ min (self.old.values + self.old.values / 8) (2 ^ 64 - 1) }
+        ensures fewer { entries < self.old.enough → self.new.enough ≡ self.old.enough }
+        ensures enough { self.old.enough ≤ entries → self.new.enough
+            ≡ min (min (entries + max (self.old.limit / 128) 1) (2 ^ 64 - 1)) self.old.limit }
+        ensures limit { self.new.limit ≡ self.old.limit }
+    {
         self.resumes = self.values.saturating_add(self.values / 8);
         if entries >= self.enough {
             let more = (self.limit / 128).max(1);
@@ -77,7 +101,9 @@ impl HistoryMeasure {
 }
 
 // Returns how many entries are enough for a forget, of a history with room for `limit`.
-fn usual_of(limit: u64) -> u64 {
+fn usual_of(limit: u64) -> u64
+    ensures { result ≡ limit - limit / 16 }
+{
     limit.saturating_sub(limit / 16)
 }
 
@@ -112,7 +138,11 @@ fn kept_in(opening: &Opening) -> u64 {
 }
 
 // Counts the values of the answers that wait at a query.
-fn waiting_in(opening: &Opening, query: u64) -> u64 {
+#[tactic(auto, unfolding(leases::specs::Openings::opening_in))]
+fn waiting_in(opening: &Opening, query: u64) -> u64
+    ensures { result ≡ min (length (option_map_or (λ q. q.earlier) (slice_get
+        (opening_in opening.now).queries query) []) * ANSWER) (2 ^ 64 - 1) }
+{
     match opening.waiting(query) {
         Some(answers) => (answers.len() as u64).saturating_mul(ANSWER),
         None => 0,

@@ -1,5 +1,6 @@
 //! Answers connections by seats that settle, over a hub that forgets by itself.
 ghost use Rattle.std.specs.Prelude.{◌≡◌, IfErr, IfOk, OnErr, OnOk};
+ghost use Rattle.command_lines.specs.declared.run.TheConstants.{TURN_ROWS};
 ghost use Rattle.reference.specs.World.{IsTurnSize};
 ghost use Rattle.wire.specs.Devices.{Rises};
 ghost use Rattle.wire.specs.Requests.{requests_of};
@@ -10,6 +11,7 @@ use crate::alarm::Alarm;
 use crate::client::Client;
 use crate::drains::{OwnDrainer, PoolDrainer};
 use crate::keeper::Keeper;
+use command_lines::TURN_ROWS;
 use hub::{Hub, Seat};
 use std::alloc::Global;
 use std::sync::Wait;
@@ -62,18 +64,18 @@ impl<'a, R> Connection<'a, R> {
         }
     }
 
-    /// Makes one whose `serve` drains in at most so many threads if they pay. It rings an alarm if
-    /// a seat differs from the history. It does so at once: a forget may take what showed it.
+    /// Makes one of a server: its turns have at most `TURN_ROWS` rows. Its `serve` drains in at
+    /// most so many threads if they pay. It rings an alarm if a seat differs from the history. It
+    /// does so at once: a forget may take what showed it.
     pub(crate) fn watched(
         rt: &'a R,
         alloc: Global,
         hub: &'a Hub,
-        rows: u32,
         forget: u64,
         threads: usize,
         alarm: &'a Alarm,
     ) -> Connection<'a, R>
-        ensures rows { result.rows ≡ rows }
+        ensures rows { result.rows ≡ TURN_ROWS }
         ensures forget { result.forget ≡ forget }
         ensures threads { result.threads ≡ threads }
     {
@@ -81,7 +83,7 @@ impl<'a, R> Connection<'a, R> {
             rt,
             alloc,
             hub,
-            rows,
+            rows: TURN_ROWS,
             forget,
             threads,
             has_differed: AtomicBool::new(false),

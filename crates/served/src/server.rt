@@ -277,7 +277,7 @@ fn client<R: Threads + Wait + Sync>(
         if prepare(&stream, idle).is_err() {
             continue;
         }
-        let connection = Connection::watched(rt, alloc, hub, TURN_ROWS, forget, threads, alarm);
+        let connection = Connection::watched(rt, alloc, hub, forget, threads, alarm);
         let mut source = ReaderSource::new(&stream);
         let mut sink = WriterSink::new(&stream);
         let _ = connection.serve(&mut source, &mut sink, &mut seat);

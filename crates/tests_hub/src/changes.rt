@@ -1,9 +1,10 @@
 //! Tests which calls count as changes, for which a thread waits that could not go on.
 
 use crate::agreement::next_done;
-use crate::fixture::{ready, register};
+use crate::fixture::{declare, opened, ready, register};
+use crate::scarcity::is_drain_answered;
 use hub::{Hub, Seat};
-use reference::Fault;
+use reference::{Fault, NewRows};
 use std::alloc::Global;
 use std::sync::Wait;
 use std::test::Fail;
@@ -28,12 +29,14 @@ enum Call {
     Abandon,
     Take,
     Wake,
+    /// Drains, and then wakes. Nothing is ready by then, so that only the drain counts.
+    WakeIdle,
     RefusedHeartbeat,
     RefusedDrain,
 }
 
 /// Lists the calls that count.
-const CHANGES: [Call; 13] = [
+const CHANGES: [Call; 15] = [
     Call::Heartbeat,
     Call::HeartbeatNamed,
     Call::Drop,
@@ -47,13 +50,14 @@ const CHANGES: [Call; 13] = [
     Call::DrainSomeByQuery,
     Call::Forget,
     Call::ForgetIfDue,
+    Call::Wake,
+    Call::WakeIdle,
 ];
 
 /// Lists some that do not.
-const OTHERS: [Call; 5] = [
+const OTHERS: [Call; 4] = [
     Call::Abandon,
     Call::Take,
-    Call::Wake,
     Call::RefusedHeartbeat,
     Call::RefusedDrain,
 ];
@@ -99,6 +103,11 @@ fn make<R: Threads + Wait + Sync>(
             hub.wake(rt);
             Ok(true)
         }
+        Call::WakeIdle => {
+            let is_drained = hub.drain(rt, 256).is_ok();
+            hub.wake(rt);
+            Ok(is_drained)
+        }
         Call::RefusedHeartbeat => Ok(hub.heartbeat_named(rt, seat, "T", 1).is_err()),
         Call::RefusedDrain => Ok(hub.drain_some(rt, 0, 1).is_err()),
     }
@@ -136,5 +145,50 @@ fn other_calls_do_not_count(rt: HostRuntime) -> Result<(), Fail> {
     for call in OTHERS {
         assert_eq!(rt; changes_by(&rt, rt.alloc(), call)?, Some(1), "at {call:?}");
     }
+    Ok(())
+}
+
+// Makes a hub whose query has a row at each of so many instants, all closed.
+fn filled_with<R: Wait>(rt: &R, alloc: Global, instants: i64) -> Result<(Hub, Seat), Fault> {
+    let (hub, mut seat) = opened(alloc)?;
+    declare(rt, alloc, &hub, &mut seat)?;
+    register(rt, alloc, &hub, &mut seat, "q", None)?;
+    let mut rows = NewRows::new(alloc);
+    for instant in 0..instants {
+        rows.push_row(instant, &[Some(instant)])?;
+    }
+    hub.append(rt, &mut seat, 0, rows)?;
+    hub.heartbeat(rt, &mut seat, 0, instants)?;
+    Ok((hub, seat))
+}
+
+// Drains so many instants by a connection. Returns how many changes that was, or `None` if the
+// drain was refused. The settle of its seat is one of them.
+fn changes_by_a_connection<R: Threads + Wait + Sync>(
+    rt: &R,
+    alloc: Global,
+    instants: i64,
+) -> Result<Option<u64>, Fault> {
+    let (hub, mut seat) = filled_with(rt, alloc, instants)?;
+    let before = hub.wait_ready(rt).ok_or(Fault::UnknownLease)?;
+    let is_drained = is_drain_answered(rt, alloc, &hub, &mut seat, b"{\"ok\":true}\n".as_slice());
+    hub.heartbeat(rt, &mut seat, 0, instants.saturating_add(1))?;
+    let after = hub.wait_ready(rt).ok_or(Fault::UnknownLease)?;
+    if !is_drained {
+        return Ok(None);
+    }
+    Ok(Some(after.wrapping_sub(before).saturating_sub(1)))
+}
+
+#[test]
+fn a_long_drain_of_a_connection_is_several_steps(rt: HostRuntime) -> Result<(), Fail> {
+    let short = changes_by_a_connection(&rt, rt.alloc(), 2)?;
+    let long = changes_by_a_connection(&rt, rt.alloc(), 1_000)?;
+    // one step of 64 turns, and at least three of 1,024
+    assert!(rt;
+        short.is_some() && short.unwrap_or(0) <= 2,
+        "short: {short:?}"
+    );
+    assert!(rt; long.unwrap_or(0) >= 4, "long: {long:?}");
     Ok(())
 }

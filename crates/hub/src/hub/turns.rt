@@ -230,12 +230,16 @@ impl Hub {
     }
 
     /// Wakes the threads that wait, if an operator may take something. It is for a caller whose
-    /// `heartbeat_named` woke nobody, if no settle comes.
+    /// `heartbeat_named` woke nobody, if no settle comes. It counts as a change then: a thread that
+    /// ran out of memory tries again.
     ///
     /// Example: `a_burst_wakes_a_worker_once` in crates/uses/src/hubs.rt.
     pub fn wake<R: Wait>(&self, rt: &R) {
         let mut locked = self.locked.lock(rt);
         let wakes = locked.has_ready();
+        if wakes {
+            locked.note_change();
+        }
         self.release(locked, wakes);
     }
 

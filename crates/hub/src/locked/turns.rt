@@ -143,7 +143,8 @@ impl Locked {
 
     /// Returns how many changes `Hub` noted: steps that may let a thread go on that could not. It
     /// notes each `finish` and `drain`, each `drain_some` that did not fail, and the end. It notes
-    /// a heartbeat and a drop that were accepted, a settle that agreed, and a forget that was done.
+    /// a heartbeat and a drop that were accepted, a settle that agreed, a forget that was done, and
+    /// a `wake` where an operator may take something.
     /// Giving up a turn is none: a thread that gave it up when out of memory would only run out of
     /// memory again. The steps of `Locked` note none by themselves, except `settle_and_forget`.
     pub fn changes(&self) -> u64 {
@@ -153,7 +154,8 @@ impl Locked {
     /// Returns whether the end was called.
     #[tactic(auto, unfolding(crate::specs::Steps::engine_at))]
     pub fn has_ended(&self) -> bool
-        ensures { IsTrue result → HasEnded self.now self.now }
+        ensures is { result ≡ self.now.has_ended }
+        ensures ended { IsTrue result → HasEnded self.now self.now }
     {
         self.has_ended
     }

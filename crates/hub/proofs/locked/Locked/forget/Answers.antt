@@ -19,7 +19,7 @@ invariant_of-self-2 c =
       omega (arith, many, c.self.invariant.3, ap length c.new.ensures.items),
       opens_still d.first c.len.result (opening_in d.opening) (engine_in d.engine).machine (opening_in c.in_ok-opening.opening) d.history.items c.self.invariant.4.nought c.self.invariant.0 many
           (λ none. c.in_ok-opening.ensures.opening ∙ ap (λ m. (forgotten (record (engine_in d.engine) { machine = m })).machine) none),
-      reached_further d.first (d.first + c.len.result) (opening_in d.opening) (opening_in c.in_ok-opening.opening) d.history.items (engine_in d.engine) c.self.invariant.5 c.self.invariant.0 c.in_ok-opening.ensures.opening (ap (λ n. d.first + n) many),
+      reached_further d.first (d.first + c.len.result) (opening_in d.opening) (opening_in c.in_ok-opening.opening) d.history.items (engine_in d.engine) c.self.invariant.5 c.self.invariant.0 c.waiting.ensures.promises c.in_ok-opening.ensures.opening (ap (λ n. d.first + n) many),
       c.self.invariant.6,
       subst (λ x. IsLedger (ledger_in d.ledger) (d.first + c.len.result) x) (sym c.new.ensures.items) (forgotten_kept (ledger_in d.ledger) d.first (d.first + c.len.result) d.history.items (ap (λ n. d.first + n) many) c.self.invariant.7),
     )

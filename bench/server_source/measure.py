@@ -10,17 +10,19 @@ from pathlib import Path
 from typing import NamedTuple
 
 from programs import MeasureError, Program, Timed
+from waits import WaitedAppends
 
 CLIENTS = (1, 8, 64)
 ROWS = (1, 16, 256)
 WORKERS = (1, 2, 4)
 MOST_KIB = 3_000_000  # where the curve of memory ends early
-PARTS = ("cycles", "workers", "takes", "memory", "instructions")
+PARTS = ("cycles", "workers", "takes", "waits", "memory", "instructions")
 QUERIES = {
     "filter": "Select Rstream(k, v) From S [Now] Where v > 500",
     "groups": "Select Istream(k, Count(*), Sum(v)) From S [Range 100] Group By k",
     "join": "Select Istream(x.v, y.v) From S [Range 10] x, S [Now] y Where x.k = y.k",
 }
+MANY_PAIRS = "Select Istream(x.v, y.v) From S [Now] x, S [Now] y Where x.k = y.k"
 
 
 class Sizes(NamedTuple):
@@ -33,10 +35,11 @@ class Sizes(NamedTuple):
     step: int  # rows between two looks at the peak
     empty: int  # takes that find nothing
     instants: int  # of a run whose instructions are counted
+    waiting: int  # appends of 1,024 rows that wait for a long drain
 
 
-FULL = Sizes(3, 4.0, 20_000, 1_000_000, 400, 1_000_000, 2_000_000, 2_000)
-QUICK = Sizes(1, 0.3, 500, 50_000, 20, 10_000, 3_000, 40)
+FULL = Sizes(3, 4.0, 20_000, 1_000_000, 400, 1_000_000, 2_000_000, 2_000, 64)
+QUICK = Sizes(1, 0.3, 500, 50_000, 20, 10_000, 3_000, 40, 4)
 
 
 class Goal(NamedTuple):
@@ -166,6 +169,21 @@ class Bench:
         self.add(Goal("microseconds of a take of 1,024 answers", micros(server.p50),
                                micros(beside.p50), server.p50 / beside.p50, 1.5, False))
 
+    def waits(self) -> None:
+        """Measures how long one client waits for an append of a row while another one drains."""
+        print("\nMilliseconds that a client waits for an append of one row, while another client "
+              "drains much.\nPairs: 1,024 rows of one key meet each other at one instant.\n")
+        print(head("Drain", "Seconds", "Appends meanwhile", "p50", "p99", "Longest"))
+        many = [text for text in QUERIES.values() for _ in range(8)]
+        rows = [1_024 if self.sizes.rounds > 1 else 128]
+        for what, texts, appends in ((f"{len(many)} queries, {self.sizes.waiting} appends", many,
+                                      self.sizes.waiting), ("pairs", [MANY_PAIRS], 1)):
+            with self.server(1, 2) as server:
+                waited = WaitedAppends(server.port, texts, appends, rows[0], what == "pairs")
+                seconds, times = waited.measure()
+            print(row(what, f"{seconds:.2f}", len(times), *(f"{1e3 * it:.2f}" for it in (
+                times[len(times) // 2], times[len(times) * 99 // 100], times[-1]))), flush=True)
+
     def memory(self) -> None:
         """Measures the peak of memory after each step of rows, and what empty takes leave."""
         step = self.sizes.step
@@ -252,7 +270,8 @@ def main() -> int:
     print(f"{time.strftime('%Y-%m-%d %H:%M')}, {os.cpu_count()} processors, load average "
           f"{load[0]:.1f} at the start, {version(given.cqlrun)}, {version(given.cqld)}"
           f"{', short runs that try the script' if given.quick else ''}", flush=True)
-    parts = (bench.cycles, bench.workers, bench.takes, bench.memory, bench.instructions)
+    parts = (bench.cycles, bench.workers, bench.takes, bench.waits, bench.memory,
+             bench.instructions)
     for name, part in zip(PARTS, parts):
         if name in (given.part or PARTS):
             part()

@@ -23,6 +23,7 @@ OFTEN = 131_072  # values, 1 MiB of them, after which a server forgets by itself
 PATIENCE = 60.0  # seconds for which nothing of a query may change while it is not complete
 NAPS = 0.001, 0.05  # seconds between two looks at the status: the first ones, and the last
 SAMPLES = 200  # looks at the server's memory
+WARM = 60.0  # seconds that the first long queries take to fill
 FLAT = 1.2  # times the first tenth's memory that the last tenth may have
 DROPPED = 3_000  # bytes that stay of a dropped query, in the engine and in the last opening
 PLAIN = threading.Semaphore(os.cpu_count() or 1)  # plain engines at a time
@@ -334,7 +335,8 @@ def tenths_of(numbers: list[float]) -> list[float]:
 
 
 def is_flat(samples: list[Sample]) -> bool:
-    """Prints the memory by tenths of the run, and the last over the first. Returns if it is flat.
+    """Prints the memory by tenths of the time after the first minute, and the last over the first.
+    Returns if it is flat.
 
     What stays of each dropped query does not count: that is known, and it is printed. A run that is
     too short shows nothing, and it is not flat.
@@ -344,7 +346,7 @@ def is_flat(samples: list[Sample]) -> bool:
         return False
     whole = tenths_of([it.kib / 1024 for it in samples])
     dropped = tenths_of([it.queries * DROPPED / 2**20 for it in samples])
-    print("resident memory by tenths of the run, MiB: "
+    print("resident memory by tenths of the time after the first minute, MiB: "
           + ", ".join(f"{tenth:.1f}" for tenth in whole))
     print(f"of it by dropped queries, {DROPPED:,} bytes each: "
           + ", ".join(f"{tenth:.1f}" for tenth in dropped))
@@ -371,7 +373,8 @@ def main() -> int:
         samples: list[Sample] = []
         while time.monotonic() < until and any(thread.is_alive() for thread in threads):
             lives = sum(it.lives for it in clients)
-            samples.append(Sample(resident(server.process.pid), lives))
+            if time.monotonic() - begun >= WARM:
+                samples.append(Sample(resident(server.process.pid), lives))
             time.sleep(60 * minutes / SAMPLES)
         for thread in threads:
             thread.join()

@@ -4,12 +4,18 @@ import subprocess
 
 
 class Server:
-    """A cqld of so many workers and clients, for so many connections. Use it in a `with`."""
+    """A cqld of so many workers and clients, for so many connections. Use it in a `with`.
 
-    def __init__(self, program: str, workers: int, clients: int, serve: int | None = None) -> None:
+    It forgets by itself after so many values, if a number is given.
+    """
+
+    def __init__(self, program: str, workers: int, clients: int, serve: int | None = None,
+                 forget: int | None = None) -> None:
         words = [program, "--port=0", f"--workers={workers}", f"--clients={clients}"]
         if serve is not None:
             words.append(f"--serve={serve}")
+        if forget is not None:
+            words.append(f"--forget={forget}")
         pipe = subprocess.PIPE
         self.process = subprocess.Popen(words, stdout=pipe, stderr=pipe, text=True)
         assert self.process.stdout is not None

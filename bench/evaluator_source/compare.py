@@ -13,6 +13,10 @@ WAYS = (["--plain"], ["--turn", "1"], ["--turn", "7"], ["--turn", "256"], ["--tu
         ["--workers", "1"], ["--workers", "2"], ["--workers", "4"])
 # A gap above which the evaluator has to skip instants, and --plain takes too long.
 MANY = 1_000
+# Each number that is a multiple of this has a large script too.
+EACH = 20
+# The rows that wait for windows, a row for each of them, of which a drain makes a second thread.
+WORK = 2_048
 DONE = {"ok": True}
 BAD_REQUEST, BAD_LIMIT = {"error": "N2 BadRequest"}, {"error": "E14 BadLimit"}
 UNKNOWN_QUERY = {"error": "E6 UnknownQuery"}
@@ -68,6 +72,8 @@ class Script:
     """Requests, and what their replies must be; without looks none is a status or a peek. Rows and
     heartbeats come up to `gap` instants later, now and then."""
 
+    late = 0.003  # the share of rows that come late
+
     def __init__(self, seed, has_looks=True, gap=0, skips=False):
         self.random, self.requests, self.replies = Random(seed), [], []
         self.gap, self.skips = gap, skips
@@ -118,7 +124,7 @@ class Script:
         return self.random.randint(1, self.gap)
 
     def row(self, stream):
-        late = self.random.random() < 0.003
+        late = self.random.random() < self.late
         later = self.random.choice([0, 0, 0, 1, 1, 2, 3, 5, 8, 12]) + self.later(0.02)
         value = lambda: (None if self.random.random() < 0.15
                          else self.random.randint(-self.greatest, self.greatest))
@@ -127,8 +133,11 @@ class Script:
 
     def append(self):
         name = self.random.choice([*self.streams])
+        self.append_to(name, self.random.choice([0, 1, 2, 5, 12, 25]))
+
+    def append_to(self, name, count):
         stream = self.streams[name]
-        rows = [self.row(stream) for _ in range(self.random.choice([0, 1, 2, 5, 12, 25]))]
+        rows = [self.row(stream) for _ in range(count)]
         if any(it[0] <= stream.closed for it in rows):
             self.ask({"error": "E10 Late"}, op="append", stream=name, rows=rows)
             return
@@ -217,6 +226,56 @@ class Script:
         self.queries[number].is_dropped = True
 
 
+class Large(Script):
+    """A script with appends of up to 1,024 rows over several queries, so that drains have work for
+    threads. Only a window of one instant is joined, since the evaluator tries each pair of rows."""
+
+    late = 0.00003
+
+    def __init__(self, seed):
+        self.random, self.requests, self.replies = Random(f"large {seed}"), [], []
+        self.gap, self.skips = 0, False
+        self.streams, self.queries = {}, []
+        self.greatest = self.random.choice([4, 40, 2**40 - 1])
+        for name in "AB":
+            self.streams[name] = Stream([*"abcd"][: self.random.randint(1, 4)], 0)
+            self.ask(DONE, op="stream", name=name, columns=self.streams[name].columns,
+                     **{"from": 0})
+        for _ in range(self.random.randint(4, 7)):
+            self.register()
+        self.most = 0
+        for _ in range(self.random.randint(2, 3)):
+            for name in self.streams:
+                self.append_to(name, self.random.choice([700, 1_000, 1_024]))
+            calls = [self.append, self.peek, self.status, self.forget]
+            for call in self.random.choices(calls, k=3):
+                call()
+            for name, stream in self.streams.items():
+                at = stream.closed + self.random.choice([3, 9, 13])
+                self.ask(DONE, op="heartbeat", stream=name, at=at)
+                stream.closed = at
+            self.most = max(self.most, self.work())
+            self.drain()
+            for number in range(len(self.queries)):
+                self.take(number, self.random.choice([100, 1_000, 4_096]))
+            self.status()
+
+    def register(self):
+        columns = {name: it.columns for name, it in self.streams.items()}
+        is_short = lambda it: it.span == 0 and it.step is None
+        query = Query(self.random, columns)
+        while len(query.streams) > 2 or (
+                len(query.streams) == 2 and not all(map(is_short, query.windows))):
+            query = Query(self.random, columns)
+        self.ask(DONE, op="query", name=f"q{len(self.queries)}", text=query.text(self.random))
+        self.queries.append(Running(query, self.streams))
+
+    def work(self):
+        """How many closed rows wait for windows, a row for each of them."""
+        return sum(it.drained < row[0] <= stream.closed
+                   for it in self.queries for stream in it.streams for row in stream.elements)
+
+
 def is_foretold(program, seed, script, ways):
     """Runs the script in each way; prints the first reply that was not foretold, byte by byte."""
     text = lambda it, is_sorted: json.dumps(it, separators=(",", ":"), sort_keys=is_sorted)
@@ -238,7 +297,7 @@ def is_foretold(program, seed, script, ways):
 
 
 def main(program, count, first, gap):
-    good = rows = faults = 0
+    good = rows = faults = large = good_large = 0
     ways = WAYS[1:] if gap > MANY else WAYS
     for seed in range(first, first + count):
         script = Script(seed, gap=gap, skips=gap > 0)
@@ -246,11 +305,18 @@ def main(program, count, first, gap):
             print(f"script {seed}: the evaluator itself differs where it skips no instant")
             return True
         good += is_foretold(program, seed, script, ways)
+        if seed % EACH == 0 and not gap:
+            script = Large(seed)
+            assert script.most >= WORK, f"large script {seed}: no drain has work for two threads"
+            large += 1
+            good_large += is_foretold(program, f"{seed}, large", script, ways)
         rows += sum(len(it.get("rows", [])) for it in script.replies)
         faults += sum("error" in it for it in script.replies)
     print(f"{good} of {count} scripts as foretold, with {rows} answers and {faults} faults, "
           f"each in {len(ways)} ways")
-    return good < count
+    if large:
+        print(f"{good_large} of {large} large ones")
+    return good < count or good_large < large
 
 
 if __name__ == "__main__":

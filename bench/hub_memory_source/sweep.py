@@ -1,106 +1,94 @@
-"""Runs scripts over a hub, each growth refused in turn: bench/hub_memory says what has to hold."""
+"""Runs scripts over a hub, each growth refused in turn: bench/hub_memory says what has to hold.
+
+usage: sweep.py STEP CQLRUN CQLD REFUSE THREADS
+"""
 
 import json
 import os
 import socket
 import subprocess
 import sys
+from collections import Counter
+from collections.abc import Callable
 from concurrent.futures import ThreadPoolExecutor
 
+from answers import Comparison, Json, all_answers, lines, plain
+from large import large
+from threads import compare_threads
+
 WANT = {"error": "E20 OutOfMemory"}
-BROKEN = {"error": "E15 Broken"}
-TAKE = 4_096
 BLOCK = 64  # growths that are tried side by side
+FEWER = 4  # of the growths of the large script only each of so many is refused
+EXAMPLES = "first", "two_streams", "looks", "forgetting"
 
 
-def refusing(refuse, number):
-    """The environment in which the growth of this number is refused."""
+def refusing(refuse: str, number: int) -> dict[str, str]:
+    """Returns the environment in which the growth of this number is refused."""
     return {**os.environ, "LD_PRELOAD": refuse, "REFUSE_AT": str(number)}
 
 
-def ran(program, words, script, environment=None):
-    """The status and the replies of a run, and whether a growth was refused."""
-    run = subprocess.run([program, *words], input=script, env=environment,
-                         capture_output=True, text=True, timeout=60)
-    replies = [json.loads(line) for line in run.stdout.splitlines()]
-    return run.returncode, replies, "refused\n" in run.stderr
-
-
-def twice(requests):
-    """Each request and then the same once more: one that was refused memory is made again."""
+def twice(requests: list[Json]) -> list[Json]:
+    """Returns each request and then the same once more: one that ran out of memory is made
+    again."""
     return [request for request in requests for _ in range(2)]
-
-
-def lines(requests):
-    return "".join(json.dumps(request) + "\n" for request in requests)
-
-
-def plain(program, requests):
-    """What a plain engine answers them."""
-    _, replies, _ = ran(program, ["--plain"], lines(requests))
-    return replies
 
 
 # ---- cqlrun, by a pool
 
 
-def check(program, workers, requests, refuse, number):
-    """What a run with this growth refused came to.
+def check(program: str, words: list[str], requests: list[Json], refuse: str, number: int) -> str:
+    """Returns what a run with this growth refused came to.
 
-    Nothing was refused, it ended at the start, or a call was told so.
+    Nothing was refused, it ended at the start, or a call ran out of memory.
     """
-    words = [f"--workers={workers}"]
-    status, replies, was_refused = ran(program, words, lines(requests), refusing(refuse, number))
-    if not was_refused:
+    run = subprocess.run([program, *words], input=lines(requests), capture_output=True, text=True,
+                         env=refusing(refuse, number), timeout=60)
+    replies = [json.loads(line) for line in run.stdout.splitlines()]
+    if "refused\n" not in run.stderr:
         return "all"
-    if status == 3:
-        assert replies == [], f"growth {number}: status 3 after {len(replies)} replies"
+    if run.returncode == 3:
+        assert replies == [], f"status 3 after {len(replies)} replies"
         return "at the start"
-    assert status == 0 and len(replies) == len(requests), (
-        f"growth {number}: status {status}, {len(replies)} replies")
+    assert run.returncode == 0 and len(replies) == len(requests), (
+        f"status {run.returncode}, {len(replies)} replies")
     told = [place for place, reply in enumerate(replies) if reply == WANT]
-    assert len(told) <= 1, f"growth {number}: {len(told)} requests are told want of memory"
+    assert len(told) <= 1, f"{len(told)} requests ran out of memory"
     if not told:
-        # a growth that could be done without, as of a map that has room, or of a thread that others
-        # stand in for
-        assert replies == plain(program, requests), (
-            f"growth {number}: no reply tells want of memory, and the replies differ")
+        # a growth that could be done without: of a map that has room, of a thread that others
+        # stand in for, or of what the hub does by itself
+        assert replies == plain(program, requests), "no request ran out, and the replies differ"
         return "done without"
     place = told[0]
     if requests[place]["op"] == "drain":
-        return compare_drain(program, requests, replies, place, number)
+        return compare_drain(program, requests, replies, place)
     wanted = plain(program, requests[:place] + requests[place + 1:])
     found = replies[:place] + replies[place + 1:]
-    assert found == wanted, (
-        f"growth {number}: behind request {place}, {requests[place]}, the replies differ")
-    return requests[place]["op"]
+    assert found == wanted, f"after request {place}, {requests[place]}, the replies differ"
+    return str(requests[place]["op"])
 
 
-def compare_drain(program, requests, replies, place, number):
-    """A drain keeps what it finished, and may have broken one query: its answers end early."""
+def compare_drain(program: str, requests: list[Json], replies: list[Json], place: int) -> str:
+    """Compares a run in which a drain ran out of memory.
+
+    It keeps what it finished, and may have broken queries: their answers end early. Query by query
+    it may break several, as docs/faults.md says. One growth is refused, so most runs break one or
+    none; the outcome says how many.
+    """
     wanted = plain(program, requests)
     assert replies[:place] == wanted[:place], (
-        f"growth {number}: before request {place}, {requests[place]}, the replies differ")
-    given, all_given, broken = {}, {}, set()
-    for request, reply, want in list(zip(requests, replies, wanted))[place + 1:]:
-        if request["op"] != "take" or "rows" not in want:
-            assert reply == want, f"growth {number}: {request} is answered {reply}"
-        elif reply == BROKEN:
-            broken.add(request["query"])
-        else:
-            given.setdefault(request["query"], []).extend(reply["rows"])
-            all_given.setdefault(request["query"], []).extend(want["rows"])
-    for query, rows in given.items():
-        assert rows == all_given[query][:len(rows)], f"growth {number}: {query} gives {rows}"
-    assert len(broken) <= 1, f"growth {number}: {broken} are broken"
-    return "drain"
+        f"before request {place}, {requests[place]}, the replies differ")
+    run = Comparison(all_answers(program, requests))
+    for at, (request, reply, want) in enumerate(zip(requests, replies, wanted, strict=True)):
+        if at != place:
+            run.follow(request, reply, want)
+    return f"drain that broke {len(run.broken)}" if run.broken else "drain"
 
 
 # ---- cqld, by one connection
 
 
-def asked(port, script):
-    """All that a server answers to a script.
+def asked(port: int, script: str) -> list[Json]:
+    """Returns all that a server answers to a script.
 
     One that ends meanwhile, or ends the connection, may have answered less.
     """
@@ -118,14 +106,16 @@ def asked(port, script):
     return [json.loads(line) for line in answered.decode().splitlines()]
 
 
-def served(program, requests, refuse, number):
-    """The status and the replies of a server of one connection, whether a growth was refused, and
-    what it said of errors."""
-    words = [program, "--port=0", "--workers=1", "--clients=1", "--serve=1"]
+def served(program: str, words: list[str], requests: list[Json], refuse: str,
+           number: int) -> tuple[int, list[Json], bool, str]:
+    """Returns the status and the replies of a server of one connection, whether a growth was
+    refused, and what it said of errors."""
+    command = [program, "--port=0", "--workers=1", "--clients=1", "--serve=1", *words]
     pipe = subprocess.PIPE
-    with subprocess.Popen(words, env=refusing(refuse, number), stdout=pipe, stderr=pipe,
+    with subprocess.Popen(command, env=refusing(refuse, number), stdout=pipe, stderr=pipe,
                           text=True) as server:
         try:
+            assert server.stdout is not None
             line, replies = server.stdout.readline(), []
             if line.startswith("cqld: listening on 127.0.0.1:"):
                 replies = asked(int(line.rsplit(":", 1)[1]), lines(requests))
@@ -136,102 +126,86 @@ def served(program, requests, refuse, number):
     return server.returncode, replies, "refused\n" in errors, errors.replace("refused\n", "")
 
 
-def given(requests, replies):
-    """The rows that each query handed out, by the order of registration, and the places of those
-    that are broken."""
-    rows, broken, places = [], set(), {}
-    for request, reply in zip(requests, replies, strict=True):
-        if request["op"] == "query" and "ok" in reply:
-            places[request["name"]] = len(rows)
-            rows.append([])
-        elif "rows" in reply:
-            rows[places[request["query"]]].extend(reply["rows"])
-        elif reply == BROKEN:
-            broken.add(places[request["query"]])
-    return rows, broken
-
-
-def all_answers(program, requests):
-    """All that each query of a script has to hand out until it is dropped, or until the end, by
-    the order of registration."""
-    def take_all(query):
-        return [{"op": "drain"}, {"op": "take", "query": query, "limit": TAKE}]
-
-    script = []
-    for request in requests:
-        if request["op"] == "drop":
-            script += take_all(request["query"])
-        if request["op"] not in ("drain", "take"):
-            script.append(request)
-    for name in {request["name"] for request in requests if request["op"] == "query"}:
-        script += take_all(name)
-    rows, _ = given(script, plain(program, script))
-    assert all(len(some) < TAKE for some in rows), "a take may have left answers"
-    return rows
-
-
-def check_served(program, plain_program, requests, refuse, number):
-    """The same of a connection. A worker runs turns beside the client, so a take may hand out
-    fewer rows, and a later one more.
+def check_served(program: str, plain_program: str, words: list[str], requests: list[Json],
+                 refuse: str, number: int) -> str:
+    """Returns the same of a connection. A worker runs turns beside the client, so a take may hand
+    out fewer rows, and a later one more.
 
     The growth that is refused may be a worker's. Then no reply tells it, and a query may be broken.
     """
-    status, replies, was_refused, errors = served(program, requests, refuse, number)
+    status, replies, was_refused, errors = served(program, words, requests, refuse, number)
     if was_refused and status == 3:
-        assert replies == [], f"growth {number}: status 3 after {len(replies)} replies"
+        assert replies == [], f"status 3 after {len(replies)} replies"
         return "at the start"
-    assert (status, errors) == (0, ""), f"growth {number}: status {status}, {errors}"
+    assert (status, errors) == (0, ""), f"status {status}, {errors}"
     if was_refused and not replies:
         return "at the connection's start"
-    assert len(replies) == len(requests), f"growth {number}: {len(replies)} replies"
+    assert len(replies) == len(requests), f"{len(replies)} replies"
     told = [place for place, reply in enumerate(replies) if reply == WANT]
-    assert len(told) <= was_refused, (
-        f"growth {number}: {len(told)} requests are told want of memory")
+    assert len(told) <= was_refused, f"{len(told)} requests ran out of memory"
     made = [request for place, request in enumerate(requests) if place not in told]
     found = [reply for place, reply in enumerate(replies) if place not in told]
+    run = Comparison(all_answers(plain_program, made))
     for request, reply, want in zip(made, found, plain(plain_program, made), strict=True):
-        is_right = reply == want or (
-            "rows" in want and ("rows" in reply or (was_refused and reply == BROKEN)))
-        assert is_right, f"growth {number}: {request} is answered {reply}"
-    rows, broken = given(made, found)
-    for some, every in zip(rows, all_answers(plain_program, made), strict=True):
-        assert some == every[:len(some)], (
-            f"growth {number}: a query gives {some}, which do not begin {every}")
-    assert len(broken) <= was_refused, f"growth {number}: {len(broken)} queries are broken"
+        run.follow(request, reply, want)
+    assert was_refused or not run.broken, f"{len(run.broken)} queries are broken"
     if told:
-        return requests[told[0]]["op"]
+        return str(requests[told[0]]["op"])
     return "told by no reply" if was_refused else "all"
 
 
 # ---- sweeps
 
 
-def sweep(name, script, check_one):
+def example(name: str) -> list[Json]:
+    """Returns the requests of an example."""
+    with open(f"examples/{name}.jsonl", encoding="utf-8") as file:
+        return [json.loads(line) for line in file if line.strip()]
+
+
+def sweep(name: str, step: int, script: list[Json],
+          check_one: Callable[[list[Json], int], str]) -> None:
     """Refuses one growth after the other, until none is refused in a whole block of runs."""
-    with open(script) as file:
-        requests = twice([json.loads(line) for line in file])
-    counts, number, is_done = {}, 1, False
+    requests = twice(script)
+    counts: Counter[str] = Counter()
+    first, is_done = 1, False
+
+    def outcome(number: int) -> str:
+        try:
+            return check_one(requests, number)
+        except Exception as error:
+            raise AssertionError(f"{name}, growth {number}: {error}") from error
+
     with ThreadPoolExecutor(os.cpu_count()) as pool:
         while not is_done:
-            block = range(number, number + BLOCK)
-            outcomes = list(pool.map(lambda it: check_one(requests, it), block))
-            for outcome in outcomes:
-                counts[outcome] = counts.get(outcome, 0) + 1
-            is_done = all(outcome == "all" for outcome in outcomes)
-            number = block.stop
-    counts.pop("all")
+            block = list(pool.map(outcome, range(first, first + step * BLOCK, step)))
+            counts.update(block)
+            is_done = set(block) == {"all"}
+            first += step * BLOCK
+    del counts["all"]
     told = ", ".join(f"{outcome}: {times}" for outcome, times in sorted(counts.items()))
-    assert counts, f"{name}, {script}: nothing was refused"
-    print(f"{name}, {script}: {sum(counts.values())} growths refused in turn; {told}", flush=True)
+    assert counts, f"{name}: nothing was refused"
+    print(f"{name}: {sum(counts.values())} growths refused in turn; {told}", flush=True)
 
 
-def main(cqlrun, cqld, refuse):
-    two_streams, first = "examples/two_streams.jsonl", "examples/first.jsonl"
-    for workers, script in [(1, two_streams), (1, first), (2, two_streams)]:
-        sweep(f"cqlrun --workers {workers}", script,
-              lambda requests, number: check(cqlrun, workers, requests, refuse, number))
-    sweep("cqld", two_streams,
-          lambda requests, number: check_served(cqld, cqlrun, requests, refuse, number))
+def main(step: int, cqlrun: str, cqld: str, refuse: str, threads: str) -> None:
+    """Tries the starts of threads, and then the growths."""
+    compare_threads(cqlrun, threads)
+    scripts = {name: example(name) for name in EXAMPLES}
+    scripts["large"] = large(1)
+    runs = [("first", 1, ""), ("two_streams", 1, ""), ("two_streams", 2, ""),
+            ("looks", 1, ""), ("forgetting", 1, ""), ("large", 2, ""),
+            *((name, 1, "--forget=1") for name in ("two_streams", "looks", "forgetting"))]
+    for name, workers, forget in runs:
+        words = [f"--workers={workers}", *filter(None, [forget])]
+        each = step * FEWER if name == "large" else step
+        sweep(f"{name} by cqlrun {' '.join(words)}", each, scripts[name],
+              lambda requests, number: check(cqlrun, words, requests, refuse, number))
+    for name, forget in [("two_streams", ""), ("looks", ""), ("two_streams", "--forget=1"),
+                         ("looks", "--forget=1"), ("forgetting", "--forget=1")]:
+        words = [*filter(None, [forget])]
+        sweep(" ".join([name, "by cqld", *words]), step, scripts[name],
+              lambda requests, number: check_served(cqld, cqlrun, words, requests, refuse, number))
 
 
-main(*sys.argv[1:])
+main(int(sys.argv[1]), *sys.argv[2:])

@@ -19,9 +19,11 @@ TAKE = 4_096
 DONE = {"ok": True}
 TOO_MANY = {"error": "E18 TooManyLeases"}  # as many turns are out as may be
 PAUSE = 0.05  # seconds between two times that rows are forgotten
+OFTEN = 131_072  # values, 1 MiB of them, after which a server forgets by itself
 PATIENCE = 60.0  # seconds for which nothing of a query may change while it is not complete
 NAPS = 0.001, 0.05  # seconds between two looks at the status: the first ones, and the last
 SAMPLES = 200  # looks at the server's memory
+WARM = 60.0  # seconds that the first long queries take to fill
 FLAT = 1.2  # times the first tenth's memory that the last tenth may have
 DROPPED = 3_000  # bytes that stay of a dropped query, in the engine and in the last opening
 PLAIN = threading.Semaphore(os.cpu_count() or 1)  # plain engines at a time
@@ -332,32 +334,37 @@ def tenths_of(numbers: list[float]) -> list[float]:
     return [sum(numbers[i * size:(i + 1) * size]) / size for i in range(10)]
 
 
-def say_memory(samples: list[Sample]) -> None:
-    """Prints the memory by tenths of the run, the last over the first, and if it is flat.
+def is_flat(samples: list[Sample]) -> bool:
+    """Prints the memory by tenths of the time after the first minute, and the last over the first.
+    Returns if it is flat.
 
-    What stays of each dropped query does not count: that is known, and it is printed.
+    What stays of each dropped query does not count: that is known, and it is printed. A run that is
+    too short shows nothing, and it is not flat.
     """
     if len(samples) < 10:
         print("the run was too short to say whether memory is flat")
-        return
+        return False
     whole = tenths_of([it.kib / 1024 for it in samples])
     dropped = tenths_of([it.queries * DROPPED / 2**20 for it in samples])
-    print("resident memory by tenths of the run, MiB: "
+    print("resident memory by tenths of the time after the first minute, MiB: "
           + ", ".join(f"{tenth:.1f}" for tenth in whole))
     print(f"of it by dropped queries, {DROPPED:,} bytes each: "
           + ", ".join(f"{tenth:.1f}" for tenth in dropped))
     ratio = (whole[-1] - dropped[-1]) / (whole[0] - dropped[0])
     verdict = "flat" if ratio <= FLAT else "not flat"
-    print(f"the rest is in the last tenth {ratio:.2f} times that in the first: {verdict}",
-          flush=True)
+    print(f"the rest is in the last tenth {ratio:.2f} times that in the first (at most {FLAT}): "
+          f"{verdict}", flush=True)
+    return ratio <= FLAT
 
 
 def main() -> int:
     minutes, cqld, cqlrun, seed = float(sys.argv[1]), sys.argv[2], sys.argv[3], sys.argv[4]
-    with Server(cqld, WORKERS, CLIENTS + 1, CLIENTS + 1) as server:
+    forgetters, forget = (0, OFTEN) if "--by-itself" in sys.argv[5:] else (1, None)
+    count = CLIENTS + forgetters
+    with Server(cqld, WORKERS, count, count, forget) as server:
         clients = [Client(number, server.port, seed, cqlrun) for number in range(CLIENTS)]
-        forgetter = Forgetter(server.port)
-        lines: list[Line] = [*clients, forgetter]
+        forgetting = [Forgetter(server.port) for _ in range(forgetters)]
+        lines: list[Line] = [*clients, *forgetting]
         begun = time.monotonic()
         until = begun + 60 * minutes
         threads = [threading.Thread(target=line.run, args=(until,)) for line in lines]
@@ -366,7 +373,8 @@ def main() -> int:
         samples: list[Sample] = []
         while time.monotonic() < until and any(thread.is_alive() for thread in threads):
             lives = sum(it.lives for it in clients)
-            samples.append(Sample(resident(server.process.pid), lives))
+            if time.monotonic() - begun >= WARM:
+                samples.append(Sample(resident(server.process.pid), lives))
             time.sleep(60 * minutes / SAMPLES)
         for thread in threads:
             thread.join()
@@ -375,19 +383,22 @@ def main() -> int:
     print(f"{CLIENTS} clients, {WORKERS} workers: {sum(it.asked for it in clients)} requests in "
           f"{seconds:.0f} s, {sum(it.lives for it in clients)} queries, "
           f"{sum(it.looks for it in clients)} looks at the status")
-    print(f"rows were forgotten {forgetter.count} times")
+    for forgetter in forgetting:
+        print(f"rows were forgotten {forgetter.count} times")
+    if not forgetting:
+        print(f"no client forgot: the server did so by itself, after {OFTEN:,} values")
     print(f"{sum(it.refused for it in clients)} drains were refused by E18, since 64 turns were "
           "out")
     print("a query was complete after its last heartbeat in at most "
           f"{max(it.longest for it in clients) * 1000:.0f} ms")
-    say_memory(samples)
+    has_stayed = is_flat(samples)
     faults = [line.fault for line in lines if line.fault]
     if faults or (status, errors) != (0, ""):
         print(f"{len(faults)} clients met a fault; the server ended with {status}: {errors}")
         return 1
     print(f"every reply is that of a plain engine, and all {sum(it.answers for it in clients)} "
           "answers; the server ended with 0")
-    return 0
+    return 0 if has_stayed else 1
 
 
 if __name__ == "__main__":

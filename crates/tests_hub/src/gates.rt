@@ -2,7 +2,7 @@
 
 use crate::fixture::{declare, opened, ready, register, rows};
 use hub::{Hub, Seat};
-use reference::{Fault, NewRows};
+use reference::Fault;
 use std::alloc::Global;
 use std::sync::Wait;
 use std::sync::atomic::{AtomicBool, AtomicU64, Ordering};
@@ -10,7 +10,7 @@ use std::test::Fail;
 use std::thread;
 use std::thread::Threads;
 use std::time::{Clock, Duration};
-use workers::{Gate, NoGate, Pool, help, work};
+use workers::{Gate, NoGate, Pool, work};
 
 /// Limits how often a gate looks, with a millisecond of sleep each time.
 const LOOKS: u32 = 10_000;
@@ -228,78 +228,6 @@ fn overlap<R: Threads + Wait + Clock + Sync>(rt: &R, alloc: Global, hub: &Hub) -
 fn two_workers_run_two_turns_at_once(rt: HostRuntime) -> Result<(), Fail> {
     let (hub, _) = two_ready(&rt, rt.alloc())?;
     assert!(rt; overlap(&rt, rt.alloc(), &hub));
-    Ok(())
-}
-
-/// Counts the turns that run outside the lock.
-#[derive(Drop)]
-struct Counted {
-    count: AtomicU64,
-}
-
-impl Gate for Counted {
-    fn before(&self, _lease: u64) {
-        self.count.fetch_add(1, Ordering::SeqCst);
-    }
-
-    fn after(&self, _lease: u64) {}
-}
-
-// Makes a hub with 2,048 rows at the instant 0, which is closed.
-fn full<R: Wait>(rt: &R, alloc: Global) -> Result<Hub, Fault> {
-    let (hub, mut seat) = opened(alloc)?;
-    declare(rt, alloc, &hub, &mut seat)?;
-    register(rt, alloc, &hub, &mut seat, "q", None)?;
-    for _ in 0..2 {
-        let mut rows = NewRows::new(alloc);
-        for number in 0..1_024 {
-            rows.push_row(0, &[Some(number)])?;
-        }
-        hub.append(rt, &mut seat, 0, rows)?;
-    }
-    hub.heartbeat(rt, &mut seat, 0, 0)?;
-    Ok(hub)
-}
-
-// Waits until all answers of the instant wait, or the last look. Then calls the end.
-fn end_behind_answers<R: Wait + Clock>(rt: &R, hub: &Hub) -> bool {
-    let mut is_answered = false;
-    for _ in 0..LOOKS {
-        if hub.waiting(rt, 0) == Ok(2_048) {
-            is_answered = true;
-            break;
-        }
-        thread::sleep(rt, Duration::from_millis(1));
-    }
-    hub.end(rt);
-    is_answered
-}
-
-// Runs turns of one row by a helper. Returns whether all answers came, and how many turns ran
-// outside the lock.
-fn outside_the_lock<R: Threads + Wait + Clock + Sync>(
-    rt: &R,
-    alloc: Global,
-    hub: &Hub,
-) -> (bool, u64) {
-    let counted = Counted {
-        count: AtomicU64::new(0),
-    };
-    let gate = &counted;
-    let (is_answered, ()) = thread::join(
-        rt,
-        move || end_behind_answers(rt, hub),
-        move || help(rt, alloc, hub, gate, 1, 1),
-    );
-    (is_answered, counted.count.load(Ordering::SeqCst))
-}
-
-#[test]
-fn a_helper_runs_full_turns_outside_the_lock(rt: HostRuntime) -> Result<(), Fail> {
-    let hub = full(&rt, rt.alloc())?;
-    let (is_answered, turns) = outside_the_lock(&rt, rt.alloc(), &hub);
-    assert!(rt; is_answered);
-    assert!(rt; turns > 0);
     Ok(())
 }
 

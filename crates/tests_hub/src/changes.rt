@@ -163,7 +163,7 @@ fn filled_with<R: Wait>(rt: &R, alloc: Global, instants: i64) -> Result<(Hub, Se
 }
 
 // Drains so many instants by a connection. Returns how many changes that was, or `None` if the
-// drain was refused. The settle of its seat is one of them.
+// drain was refused.
 fn changes_by_a_connection<R: Threads + Wait + Sync>(
     rt: &R,
     alloc: Global,

@@ -105,9 +105,10 @@ def main(program, refuse, stdin, stdout):
             told = ", ".join(f"{name} after {rows} answers: {times}"
                              for (name, rows), times in sorted(ends.items()))
             print(f"  by {way}, broken {told or 'none'}", flush=True)
-    assert all_spared, "each drain that wanted memory broke a query or ran turns"
-    for way, ends in zip(("turns", "drains"), seen):
-        assert ("p", 3) in ends, f"by {way} no run broke p behind its first three answers"
+    assert all_spared, "each drain that wanted memory ran turns"
+    by_turns, by_drains = seen
+    assert ("p", 3) in by_turns, "no finish broke p behind its first three answers"
+    assert not by_drains, f"drains broke {by_drains}"
 
 
 if __name__ == "__main__":

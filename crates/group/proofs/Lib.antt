@@ -20,3 +20,6 @@ pub mod PassedLemmas
 pub mod PlaceLemmas
 pub mod ListsLemmas
 pub mod ExcerptLemmas
+pub mod BackLemmas
+pub mod WholeLemmas
+pub mod PlanLemmas

@@ -1,5 +1,5 @@
 -- A tick may pass over groups that are quiet.
-use Rattle.std.proofs.Common.{◌≡◌, ℕ, Bool, true, false, cond, Option, Some, None, unwrap_or, List, [], ◌∷◌, ◌++◌, map, fold, length, ◌⊎◌, ⊎_elim, inl, inr, refl, sym, ap, ◌∙◌, subst, arith}
+use Rattle.std.proofs.Common.{get_or, ◌≡◌, ℕ, Bool, true, false, cond, Option, Some, None, unwrap_or, List, [], ◌∷◌, ◌++◌, map, fold, length, ◌⊎◌, ⊎_elim, inl, inr, refl, sym, ap, ◌∙◌, subst, arith}
 use Rattle.std.specs.declared.cmp.Ordering.{Ordering}
 use Rattle.std.specs.declared.cmp.Ordering.TheVariants.{Less, Equal, Greater}
 use Rattle.std.specs.Ordering.{is_eq, match_ordering, ordering_reverse}
@@ -8,7 +8,7 @@ use Rattle.std.specs.Map.{lookup, set_value}
 use Rattle.std.specs.BTreeMap.{is_at, insert_entry}
 use Rattle.std.specs.BTreeSet.{insert_key}
 use Rattle.std.specs.Cmp.{eq_by_cmp_equiv}
-use Rattle.std.specs.List.{All, Contains, range_with_len}
+use Rattle.std.specs.List.{Contains, range_with_len}
 use Rattle.std.specs.List.Sorted.{IsStrictlySortedBy}
 use Rattle.std.proofs.lemmas.List.Sums.{fold-append}
 use Rattle.std.proofs.lemmas.List.Elements.{All-contains, Contains-append_left, Contains-append_right, Contains-append_cases}
@@ -19,8 +19,9 @@ use Rattle.values.specs.Row.{Row}
 use Rattle.values.specs.declared.resolved.ListItem.{ListItem}
 use Rattle.values.specs.declared.resolved.ListItem.TheVariants.{Key}
 use Rattle.group.specs.Groups.{GroupBy}
-use Rattle.group.specs.Cells.{Held, held_cmp, CellState, cell_zero, cell_after, showing}
-use Rattle.group.specs.Keys.{in_set}
+use Rattle.group.specs.Cells.{Held, held, held_cmp, CellState, cell_zero, cell_after, showing}
+use Rattle.std.proofs.lemmas.List.{get_or_default}
+use Rattle.group.specs.Keys.{AreWhole, in_set}
 use Rattle.group.specs.Quiet.{AreQuiet, IsQuiet, ListsKeys}
 use Rattle.group.specs.Runs.{ShowsKey, changes_at, row_at_tick}
 use Rattle.group.specs.Turns.{cell_of, has_key, near_at, outputs, shown_after, shown_at, swap_of, taken_in, with_cell}
@@ -42,7 +43,7 @@ other_with_cell k q c d es h = here (has_key k es) refl
         lookup-insert_entry held_cmp held_order k q d es
         ∙ ap (λ (b : Bool). cond b (Some d) (lookup (is_at (held_cmp q)) es)) (sym (same_turned held_cmp held_order k q) ∙ h)
 
-other_shown : (n : ℕ) (k q : Held) (o : Option Held) (es : List (Held × CellState)) → is_eq (held_cmp k q) ≡ false → lookup (is_at (held_cmp q)) (shown_at n k o es) ≡ lookup (is_at (held_cmp q)) es
+pub other_shown : (n : ℕ) (k q : Held) (o : Option Held) (es : List (Held × CellState)) → is_eq (held_cmp k q) ≡ false → lookup (is_at (held_cmp q)) (shown_at n k o es) ≡ lookup (is_at (held_cmp q)) es
 other_shown n k q None es h = remove_other k q es h
 other_shown n k q (Some r) es h = other_with_cell k q (showing (cell_of n k es) (Some r)) (showing (cell_zero n) (Some r)) es h
 
@@ -157,7 +158,7 @@ same_changes g es ts qs true quiet lists =
 in_both : (ts qs : List Held) (z : Held) → Contains (in_set (ts ++ qs)) z → Contains (in_set ts) z ⊎ Contains (in_set qs) z
 in_both ts qs z c = ⊎_elim (λ a. inl (among-set ts z a)) (λ b. inr (among-set qs z b)) (Contains-append_cases ts qs z (in_set-in z (ts ++ qs) c))
 
-of_first : (ts qs : List Held) (z : Held) → Contains (in_set ts) z → Contains (in_set (ts ++ qs)) z
+pub of_first : (ts qs : List Held) (z : Held) → Contains (in_set ts) z → Contains (in_set (ts ++ qs)) z
 of_first ts qs z c = among-set (ts ++ qs) z (Contains-append_left ts qs z (in_set-in z ts c))
 
 of_second : (ts qs : List Held) (z : Held) → Contains (in_set qs) z → Contains (in_set (ts ++ qs)) z
@@ -242,3 +243,13 @@ quiet_either is k r es fs ts qs us vs b e f cells now quiet q c = here (is_eq (h
 
 pub none_quiet : (es : List (Held × CellState)) (ts qs : List Held) → qs ≡ [] → AreQuiet es ts qs
 none_quiet es ts qs e k c = let d : Contains [] k = subst (λ (ks : List Held). Contains ks k) e c in absurd (omega (arith, d.1))
+
+-- THE ONE GROUP WITHOUT GROUP BY
+whole_first : (ts qs : List Held) → AreWhole (in_set (ts ++ qs)) → AreWhole (in_set ts)
+whole_first ts qs a = λ k d lt.
+    let z : Held = get_or (in_set ts) k d in
+    All-contains (λ (j : Held). j ≡ held []) (in_set (ts ++ qs)) z a (of_first ts qs z (k, lt, get_or_default (in_set ts) k z d lt))
+
+pub whole_gathered : (ts qs : List Held) (b : Bool) → AreWhole (in_set (ts ++ qs)) → AreWhole (cond b (in_set ts) (in_set (ts ++ qs)))
+whole_gathered ts qs true a = whole_first ts qs a
+whole_gathered ts qs false a = a

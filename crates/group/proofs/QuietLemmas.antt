@@ -1,15 +1,15 @@
 -- Groups whose list is their key put out nothing while they show it.
 use Rattle.std.proofs.Common.{◌≡◌, ℕ, zero, suc, ◌+◌, ℤ, pos, Bool, true, false, cond, ◌||◌, Option, Some, None, List, [], ◌∷◌, map, length, refl, sym, ap, ap₂, ◌∙◌, arith}
 use Rattle.std.specs.Ordering.{int_cmp, is_lt}
-use Rattle.std.specs.Option.{is_some}
 use Rattle.std.specs.List.{range_with_len}
 use Rattle.values.specs.Row.{Row, value_at}
 use Rattle.values.specs.declared.resolved.ListItem.{ListItem}
 use Rattle.values.specs.declared.resolved.ListItem.TheVariants.{Key}
 use Rattle.group.specs.Groups.{GroupBy, no_columns}
-use Rattle.group.specs.Cells.{Held, held, CellState, TallyState, figures, shown_figure, showing}
+use Rattle.group.specs.Cells.{Held, held, CellState, TallyState, figures, shown_figure}
 use Rattle.group.specs.Turns.{fitted, same_shown, swap_of}
 use Rattle.op_queue.specs.Flat.{FlatState, with_signed}
+use Rattle.group.specs.Plans.{plan_for, plan_of}
 use Rattle.group.specs.Runs.{ShowsKey, put_out, row_at_tick}
 use Rattle.group.proofs.DistinctLemmas.{whole_row}
 use Rattle.group.proofs.KeyLemmas.{same_held}
@@ -39,11 +39,8 @@ same_is None k h = cc
 same_is (Some r) k h = ap Some ((same_held r k).0 h)
 
 -- A TICK OF A GROUP THAT SHOWS ITS KEY
-pub quiet_some : (g : GroupBy) (k : Held) (c : CellState) → ShowsKey g k c → true ≡ is_some (row_at_tick g k c)
-quiet_some g k c h = sym (ap is_some h.row)
-
-pub quiet_cell : (g : GroupBy) (k : Held) (c : CellState) → ShowsKey g k c → c ≡ showing c (row_at_tick g k c)
-quiet_cell g k c h = ap (showing c) (h.shown ∙ sym h.row)
+pub quiet_plan : (g : GroupBy) (k : Held) (c : CellState) → ShowsKey g k c → None ≡ plan_of g k c
+quiet_plan g k c h = sym (ap₂ (λ (o p : Option Held). plan_for o p) h.shown h.row ∙ ap (λ (b : Bool). cond b None (Some (Some k))) ((same_held k k).1 refl))
 
 pub nothing_out : (g : GroupBy) (m : ℕ) (k : Held) (c : CellState) → ShowsKey g k c → swap_of m c.shown (row_at_tick g k c) ≡ []
 nothing_out g m k c h =

@@ -1,5 +1,5 @@
 -- Each row takes a little of the room that counts and sums have.
-use Rattle.std.proofs.Common.{◌≡◌, ℕ, ℤ, zero, suc, ◌+◌, ◌-◌, ◌*◌, ◌^◌, ◌≤◌, ◌≤ℤ◌, neg_ℤ, pos, Bool, true, false, cond, nat_lt, Option, Some, None, unwrap_or, List, [], ◌∷◌, length, fold, replicate, ◌∙◌, arith}
+use Rattle.std.proofs.Common.{◌≡◌, ℕ, ℤ, zero, suc, ◌+◌, ◌-◌, ◌*◌, ◌^◌, ◌≤◌, ◌≤ℤ◌, neg_ℤ, pos, Bool, true, false, cond, nat_lt, Option, Some, None, unwrap_or, List, [], ◌∷◌, length, fold, replicate, ◌∙◌, sym, subst, arith}
 use Rattle.std.specs.List.{All}
 use Rattle.std.specs.Option.{IfSome}
 use Rattle.std.specs.Map.{lookup, set_value, remove_entry, values_of}
@@ -43,7 +43,7 @@ values_room n false true v es h = here (nat_lt 1 (count_of v es))
     here false = All-map-remove_entry (is_at (value_cmp v)) (λ e. e.1) (λ m. m ≤ n + 1) es more
 
 -- A TALLY
-within_le : (m n : ℕ) (z : ℤ) → m ≤ n → IsWithin m z → IsWithin n z
+pub within_le : (m n : ℕ) (z : ℤ) → m ≤ n → IsWithin m z → IsWithin n z
 within_le m n z h w = let l : neg_ℤ (pos m) ≤ℤ z = w.low in let u : z ≤ℤ pos m = w.high in record { low = omega (arith, ints); high = omega (arith, ints) }
 
 signed_within : (n : ℕ) (enters : Bool) (z : ℤ) → IsWithin n z → IsWithin n (signed_by enters z)
@@ -72,7 +72,7 @@ tally_room n enters kept (Some z) t h r = record {
 }
 
 -- A GROUP
-first_and : (P : TallyState → Type 0) (t : TallyState) (ts : List TallyState) → P t → All P ts → All P (t ∷ ts)
+pub first_and : (P : TallyState → Type 0) (t : TallyState) (ts : List TallyState) → P t → All P ts → All P (t ∷ ts)
 first_and P t ts p a zero d lt = p
 first_and P t ts p a (suc k) d lt = a k d (omega (arith, lt))
 
@@ -153,6 +153,10 @@ closing_room n is (c ∷ cs) es h = closing_room n is cs (shown_at (length is) c
 -- after a tick
 pub room_closed : (s : GroupState) (cs : List ShownState) → KeepsRoom s (closed_state s cs)
 room_closed s cs n h = all_room_le n (n + 1024) s.group.items (fold (shown_after (length s.group.items)) s.cells cs) (omega arith) (closing_room n s.group.items cs s.cells h)
+
+-- where nothing has changed
+pub room_same : (s t : GroupState) → t ≡ s → KeepsRoom s t
+room_same s t e = subst (KeepsRoom s) (sym e) (λ n h. all_room_le n (n + 1024) s.group.items s.cells (omega arith) h)
 
 -- at the beginning
 pub room_begins : (n : ℕ) (g : GroupBy) → CountsUpTo n (beginning g)

@@ -14,15 +14,11 @@ use Rattle.std.proofs.Math.Dec.{eqb}
 use Rattle.std.proofs.lemmas.Map.{keys-set_value, lookup-set_value, lookup-remove_entry}
 use Rattle.std.proofs.lemmas.Map.Keys.{IsDistinct-from_sorted, sorted_tail}
 use Rattle.std.proofs.lemmas.Map.Views.{All-after_first, All-keys-insert_entry, All-map-remove_entry}
-use Rattle.group.specs.Groups.{GroupBy}
-use Rattle.group.specs.Cells.{Held, held_cmp, CellState, cell_zero, showing}
+use Rattle.group.specs.Cells.{Held, held_cmp, CellState, cell_zero}
 use Rattle.group.specs.Keys.{IsShort, Short}
-use Rattle.op_queue.specs.Flat.{FlatState}
-use Rattle.group.specs.Runs.{HasSwapped, row_at_tick}
-use Rattle.group.specs.Slots.{IsPlaced, KeepsKeys, Swaps, Writes, cell_at, held_at, key_at}
+use Rattle.group.specs.Slots.{IsPlaced, KeepsKeys, Writes, cell_at, held_at, key_at}
 use Rattle.group.specs.Turns.{cell_of, has_key, with_cell}
 use Rattle.group.proofs.KeyLemmas.{held_order, key_itself, lookup-insert_entry, same_key, same_test, same_turned}
-use Rattle.group.proofs.RunLemmas.{has_swapped}
 use Rattle.group.proofs.ShortLemmas.{absent-above}
 use Rattle.group.proofs.SetLemmas.{above, in-head, in-tail}
 
@@ -294,11 +290,6 @@ with_there n m ps f g k p u fresh h found w =
 -- one that is not there comes
 pub with_new : (k : Held) (there fresh : CellState) (es : List (Held × CellState)) → has_key k es ≡ false → insert_entry held_cmp es k fresh ≡ with_cell k there fresh es
 with_new k there fresh es h = sym (ap (λ (b : Bool). cond b (set_value (is_at (held_cmp k)) es there) (insert_entry held_cmp es k fresh)) h)
-
-pub swaps_there : (n : ℕ) (ps : List (Held × ℕ)) (f h : Found) (g : GroupBy) (k : Held) (p : ℕ) (o q : FlatState) (some : Bool) → IsPlaced n ps f → lookup (is_at (held_cmp k)) ps ≡ Some p → Swaps g k f h p o q some → HasSwapped g k (held_at f ps) o (held_at h ps) q some
-swaps_there n ps f h g k p o q some placed found s =
-    has_swapped g k k (held_at f ps) (held_at h ps) o q some (cell_at (f p)) (showing (cell_at (f p)) (row_at_tick g k (cell_at (f p)))) refl (found-held f ps k p found)
-    (held_set n ps f h k p (showing (cell_at (f p)) (row_at_tick g k (cell_at (f p)))) placed found s.cell) s.row refl s.rows
 
 -- THE LAST GROUP
 last_in : (rest : List (Held × ℕ)) (e : Held × ℕ) → Contains (keys_of (rest ++ e ∷ [])) e.0

@@ -9,6 +9,7 @@ pub mod Laws
 pub mod Batches
 pub mod Same
 pub mod Runs
+pub mod Plans
 pub mod Slots
 pub mod Places
 pub mod Lists

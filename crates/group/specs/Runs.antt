@@ -1,13 +1,10 @@
 -- The turn of a tick in place, group by group.
-use Rattle.std.specs.Prelude.{◌≡◌, Bool, true, Option, Some, List, map, length}
-use Rattle.std.specs.Option.{is_some}
-use Rattle.std.specs.Map.{set_value}
-use Rattle.std.specs.BTreeMap.{is_at}
+use Rattle.std.specs.Prelude.{◌≡◌, Option, Some, List, map, length}
 use Rattle.op_queue.specs.Flat.{FlatState, with_signed}
 use Rattle.group.specs.Groups.{GroupBy}
-use Rattle.group.specs.Cells.{Held, held_cmp, CellState, showing}
+use Rattle.group.specs.Cells.{Held, CellState}
 use Rattle.group.specs.Keys.{KeyedState}
-use Rattle.group.specs.Turns.{GroupState, ShownState, has_key, cell_of, excerpt, near_at, row_now}
+use Rattle.group.specs.Turns.{GroupState, ShownState, cell_of, excerpt, near_at, row_now}
 use Rattle.group.specs.Turns.{shown_at, shown_now, swap_of}
 
 -- the row that the group k shows from this tick on
@@ -30,16 +27,6 @@ swapped g k es = shown_at (length g.items) k (row_at_tick g k (cell_of (length g
 -- what the groups of these keys show from this tick on
 abbrev pub changes_at : GroupBy → List (Held × CellState) → List Held → List ShownState
 changes_at g es ks = map (shown_now g) (near_at g.items es ks)
-
--- the group k, which the map has, put out what it has to and
--- shows its row, or none; some says whether there is one
-pub record HasSwapped (g : GroupBy) (k : Held) (es : List (Held × CellState)) (o : FlatState)
-    (fs : List (Held × CellState)) (p : FlatState) (some : Bool) : Type 0 where
-  pub there : has_key k es ≡ true
-  pub row : some ≡ is_some (row_at_tick g k (cell_of (length g.items) k es))
-  pub cells : fs ≡ set_value (is_at (held_cmp k)) es
-      (showing (cell_of (length g.items) k es) (row_at_tick g k (cell_of (length g.items) k es)))
-  pub rows : p ≡ put_out g k (cell_of (length g.items) k es) o
 
 -- the state of what is kept of the groups
 abbrev pub state_with : GroupBy → KeyedState → GroupState

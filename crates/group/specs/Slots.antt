@@ -1,16 +1,12 @@
 -- Groups by their places in a list.
-use Rattle.std.specs.Prelude.{◌≡◌, ◌≢◌, ◌≤◌, ℕ, Bool, Option, Some, None, List, map}
-use Rattle.std.specs.Option.{is_some}
+use Rattle.std.specs.Prelude.{◌≡◌, ◌≢◌, ◌≤◌, ℕ, Option, Some, None, List, map}
 use Rattle.std.specs.Map.{keys_of, lookup}
 use Rattle.std.specs.BTreeMap.{is_at}
 use Rattle.std.specs.List.{All}
 use Rattle.std.specs.List.Sorted.{IsStrictlySortedBy}
 use Rattle.values.specs.declared.TheConstants.{MAX_COLUMNS}
-use Rattle.group.specs.Groups.{GroupBy}
-use Rattle.group.specs.Cells.{Held, held_cmp, CellState, cell_zero, showing}
+use Rattle.group.specs.Cells.{Held, held_cmp, CellState, cell_zero}
 use Rattle.group.specs.Keys.{IsShort}
-use Rattle.op_queue.specs.Flat.{FlatState}
-use Rattle.group.specs.Runs.{put_out, row_at_tick}
 
 -- by the key, what is kept of each group
 pub record SlotsState : Type 0 where
@@ -47,19 +43,3 @@ KeepsKeys f g = (q : ℕ) → key_at (g q) ≡ key_at (f q)
 pub record Writes (f g : ℕ → Option (Held × CellState)) (p : ℕ) (c : CellState) : Type 0 where
   pub cell : cell_at (g p) ≡ c
   pub others : (q : ℕ) → q ≢ p → g q ≡ f q
-
--- the group k, of which c was kept and d is, put out what it has
--- to and shows its row, or none; some says whether there is one
-pub record SwapsIn (g : GroupBy) (k : Held) (c d : CellState) (o q : FlatState)
-    (some : Bool) : Type 0 where
-  pub row : some ≡ is_some (row_at_tick g k c)
-  pub cell : d ≡ showing c (row_at_tick g k c)
-  pub rows : q ≡ put_out g k c o
-
--- the group k at the place p put out what it has to and
--- shows its row, or none; some says whether there is one
-pub record Swaps (g : GroupBy) (k : Held) (f h : ℕ → Option (Held × CellState)) (p : ℕ)
-    (o q : FlatState) (some : Bool) : Type 0 where
-  pub row : some ≡ is_some (row_at_tick g k (cell_at (f p)))
-  pub cell : Writes f h p (showing (cell_at (f p)) (row_at_tick g k (cell_at (f p))))
-  pub rows : q ≡ put_out g k (cell_at (f p)) o

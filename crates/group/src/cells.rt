@@ -2,7 +2,7 @@
 //! last.
 
 ghost use Rattle.std.specs.Prelude.{◌≡◌, ◌+◌, ◌^◌, ◌<◌, ◌≤◌, length, map};
-ghost use Rattle.std.specs.Prelude.{IfOk, OnOk, IsSome, pos, Some, None};
+ghost use Rattle.std.specs.Prelude.{IfOk, OnErr, OnOk, IsSome, pos, Some, None};
 ghost use Rattle.std.specs.Prelude.{cond, true, false, ◌++◌, ◌+ℤ◌, ◌-ℤ◌, ◌*◌, ◌/◌};
 ghost use Rattle.std.specs.Prelude.{◌==◌, fold, get_or};
 ghost use Rattle.std.specs.BTreeMap.{is_at};
@@ -17,6 +17,7 @@ ghost use Rattle.group.specs.Cells.{signed_by, tally_zero, tally_by, tallies_aft
 ghost use Rattle.group.specs.Cells.{cell_zero, cell_after, showing, each, figure, figures};
 ghost use Rattle.group.specs.Cells.{sum_figure, least, greatest, clamped_or, number_figure};
 ghost use Rattle.group.specs.Cells.{value_figure, keeping, TallyRoom, CellRoom, ReadsInRange};
+ghost use Rattle.group.specs.Cells.{partly, tally_after};
 ghost use Rattle.column.specs.Bits.{bits, word_count, place as place_of};
 ghost use Rattle.column.specs.Columns.{IsStreamValue};
 ghost use Rattle.group.specs.Batches.{rows_counted, leaving, fields, tally_values, tally_sums};
@@ -31,7 +32,8 @@ ghost use Rattle.group.specs.Groups.{no_columns};
 ghost use Rattle.std.specs.Prelude.{◌||◌, IfSome, IsTrue};
 ghost use Rattle.std.specs.Ordering.{int_cmp, is_lt};
 ghost use Rattle.op_queue.specs.Flat.{with_signed};
-ghost use Rattle.group.specs.Runs.{put_out, row_at_tick, ShowsKey};
+ghost use Rattle.group.specs.Runs.{put_out, ShowsKey};
+ghost use Rattle.group.specs.Plans.{plan_for, plan_of};
 ghost use Rattle.group.specs.Quiet.{IsQuietCell};
 
 use crate::rows::{enters, field_at, value_in};
@@ -99,10 +101,23 @@ fn keeps(item: ListItem) -> bool
     }
 }
 
+/// Returns whether any item keeps each number that it reads.
+pub(crate) fn keeps_any(items: &[ListItem]) -> bool
+    ensures { result ≡ list_any keeps items.now }
+{
+    items.iter().any(|item| keeps(*item))
+}
+
 /// Adds one to the count of a value.
+///
+/// # Errors
+/// `AllocError` when out of memory; then nothing has changed.
 fn add_value(values: &mut BTreeMap<Value, u64>, value: Value) -> Result<(), AllocError>
-    requires { count_of value values.old.entries ≤ 2 ^ 62 + 1024 }
-    ensures { OnOk result (values.new.entries ≡ one_more value values.old.entries) }
+    requires room { count_of value values.old.entries ≤ 2 ^ 62 + 1024 }
+    requires some { All (λ m. 0 < m) (values_of values.old.entries) }
+    ensures ok { OnOk result (values.new.entries ≡ one_more value values.old.entries) }
+    ensures back { OnOk result (one_less value values.new.entries ≡ values.old.entries) }
+    ensures err { OnErr result (values.new.entries ≡ values.old.entries) }
 {
     let count = values.get(&value).copied().unwrap_or(0);
     values.insert(value, count + 1)?;
@@ -131,16 +146,25 @@ fn remove_value(values: &mut BTreeMap<Value, u64>, value: Value)
     values.remove(&value);
 }
 
-/// Lets a value enter or leave if `keeps` is set, else does nothing.
+/// Lets a value enter or leave if `keeps` is set, else does nothing. It takes memory only for a
+/// value that enters.
+///
+/// # Errors
+/// `AllocError` when out of memory; then nothing has changed.
 fn keep_value(
     values: &mut BTreeMap<Value, u64>,
     keeps: bool,
     enters: bool,
     value: Value,
 ) -> Result<(), AllocError>
-    requires { All (λ m. m ≤ 2 ^ 62 + 1024) (values_of values.old.entries) }
-    ensures { OnOk result (values.new.entries
+    requires room { All (λ m. m ≤ 2 ^ 62 + 1024) (values_of values.old.entries) }
+    requires some { All (λ m. 0 < m) (values_of values.old.entries) }
+    ensures ok { OnOk result (values.new.entries
         ≡ cond keeps (values_by enters value values.old.entries) values.old.entries) }
+    ensures back { OnOk result (IsTrue enters → IsTrue keeps
+        → one_less value values.new.entries ≡ values.old.entries) }
+    ensures err { OnErr result (values.new.entries ≡ values.old.entries) }
+    ensures refused { OnErr result (IsTrue enters × IsTrue keeps) }
 {
     if !keeps {
         return Ok(());
@@ -155,7 +179,7 @@ fn keep_value(
 
 /// Returns the count with one more if `enters` is set, else with one less.
 fn counted(count: i64, enters: bool) -> i64
-    requires { IsWithin (2 ^ 62 + 1024) count }
+    requires { IsWithin (2 ^ 62 + 1025) count }
     ensures { result ≡ count +ℤ signed_by enters (pos 1) }
 {
     if enters { count + 1 } else { count - 1 }
@@ -163,7 +187,7 @@ fn counted(count: i64, enters: bool) -> i64
 
 /// Returns the sum with the number added if it enters, else with the number taken away.
 fn summed(total: i128, enters: bool, number: i64) -> i128
-    requires { IsWithin ((2 ^ 62 + 1024) * 2 ^ 63) total }
+    requires { IsWithin ((2 ^ 62 + 1025) * 2 ^ 63) total }
     ensures { result ≡ total +ℤ signed_by enters number }
 {
     if enters {
@@ -203,12 +227,17 @@ pub(crate) struct Tally {
 }
 
 impl Model for Tally {
+    ghost use Rattle.std.specs.Prelude.{◌<◌};
+    ghost use Rattle.std.specs.Map.{values_of};
+    ghost use Rattle.std.specs.List.{All};
     ghost use Rattle.group.specs.Cells.{TallyState as State};
 
     ghost Value = { State };
 
     ghost view = { λ t.
         record { numbers = t.numbers; total = t.total; values = t.values.entries } };
+
+    ghost invariant = { λ t. All (λ m. 0 < m) (values_of t.values.entries) };
 }
 
 impl Tally {
@@ -225,7 +254,8 @@ impl Tally {
 
     /// Counts and sums a number that enters or leaves.
     fn count(&mut self, enters: bool, number: i64)
-        requires { TallyRoom (2 ^ 62 + 1024) self.old }
+        requires numbers { IsWithin (2 ^ 62 + 1025) self.old.numbers }
+        requires total { IsWithin ((2 ^ 62 + 1025) * 2 ^ 63) self.old.total }
         ensures { self.new ≡ tally_by enters false (Some number) self.old }
     {
         self.numbers = counted(self.numbers, enters);
@@ -233,29 +263,65 @@ impl Tally {
     }
 
     /// Lets a value enter or leave the kept ones if `keeps` is set.
+    ///
+    /// # Errors
+    /// `AllocError` when out of memory; then nothing has changed.
     fn keep(&mut self, keeps: bool, enters: bool, value: Value) -> Result<(), AllocError>
         requires { All (λ m. m ≤ 2 ^ 62 + 1024) (values_of self.old.values) }
-        ensures { OnOk result (self.new
+        ensures ok { OnOk result (self.new
             ≡ keeping self.old
             (cond keeps (values_by enters value self.old.values) self.old.values)) }
+        ensures back { OnOk result (IsTrue enters → IsTrue keeps
+            → one_less value (one_more value self.old.values) ≡ self.old.values) }
+        ensures err { OnErr result (self.new ≡ self.old) }
+        ensures refused { OnErr result (IsTrue enters × IsTrue keeps) }
     {
         keep_value(&mut self.values, keeps, enters, value)?;
         Ok(())
     }
 
-    /// Lets a row with this value enter or leave. A null changes nothing.
+    /// Lets a row with this value enter or leave. A null changes nothing. It takes memory only to
+    /// keep a value that enters.
+    ///
+    /// # Errors
+    /// `AllocError` when out of memory; then nothing has changed.
     fn take(&mut self, enters: bool, keeps: bool, value: Value) -> Result<(), AllocError>
         requires { TallyRoom (2 ^ 62 + 1024) self.old }
         ensures tally { OnOk result (self.new ≡ tally_by enters keeps value self.old) }
         ensures range { OnOk result (IsAnswerValue value) }
+        ensures back { OnOk result (IsTrue enters
+            → tally_by false keeps value (tally_by true keeps value self.old) ≡ self.old) }
+        ensures err { OnErr result (self.new ≡ self.old) }
+        ensures refused { OnErr result (IsTrue enters × IsTrue keeps) }
     {
         match value.number() {
             None => Ok(()),
             Some(number) => {
-                self.count(enters, number);
                 self.keep(keeps, enters, value)?;
+                self.count(enters, number);
                 Ok(())
             }
+        }
+    }
+
+    /// Takes a value out of the kept ones if `keeps` is set. Takes no memory.
+    fn drop_kept(&mut self, keeps: bool, value: Value)
+        ensures { self.new ≡ keeping self.old
+            (cond keeps (one_less value self.old.values) self.old.values) }
+    {
+        if keeps {
+            remove_value(&mut self.values, value);
+        }
+    }
+
+    /// Lets a row with this value leave. Takes no memory.
+    fn take_back(&mut self, keeps: bool, value: Value)
+        requires { TallyRoom (2 ^ 62 + 1025) self.old }
+        ensures { self.new ≡ tally_by false keeps value self.old }
+    {
+        if let Some(number) = value.number() {
+            self.drop_kept(keeps, value);
+            self.count(false, number);
         }
     }
 
@@ -273,13 +339,14 @@ impl Tally {
     }
 
     /// Lets the values of a column enter, or leave if their bit in `minus` is set, one after the
-    /// other.
+    /// other. It takes memory only to keep values.
     fn take_values(&mut self, lane: &Column, keeps: bool, minus: &[u64]) -> Result<(), AllocError>
         requires words { length minus.now ≡ word_count (length lane.now) }
         requires room { TallyRoom (2 ^ 62) self.old }
         ensures tally { OnOk result (self.new
             ≡ tally_values keeps (bits (length lane.now) minus.now) lane.now self.old) }
         ensures range { OnOk result (All IsAnswerValue lane.now) }
+        ensures refused { OnErr result (IsTrue keeps) }
     {
         for place in 0..lane.len() {
             self.take(!is_set(minus, place), keeps, lane.get(place))?;
@@ -294,6 +361,7 @@ impl Tally {
         ensures tally { OnOk result (self.new
             ≡ tally_values keeps (bits (length lane.now) minus.now) lane.now self.old) }
         ensures range { OnOk result (All IsAnswerValue lane.now) }
+        ensures refused { OnErr result (IsTrue keeps) }
     {
         if keeps {
             self.take_values(lane, true, minus)?;
@@ -318,6 +386,7 @@ impl Tally {
         ensures tally { OnOk result (self.new
             ≡ tally_values keeps (leaving batch.now) (fields column batch.now) self.old) }
         ensures range { OnOk result (All IsAnswerValue (fields column batch.now)) }
+        ensures refused { OnErr result (IsTrue keeps) }
     {
         let _ = batch.len(); // for the proof
         if column.source != 0 {
@@ -335,6 +404,7 @@ impl Tally {
         requires { TallyRoom (2 ^ 62) self.old }
         ensures tally { OnOk result (self.new ≡ tally_rows batch.now item self.old) }
         ensures range { OnOk result (All IsAnswerValue (numbers_read item batch.now)) }
+        ensures refused { OnErr result (keeps item ≡ true) }
     {
         match item {
             ListItem::Key(_) => Ok(()),
@@ -453,9 +523,7 @@ pub(crate) struct Cell {
 }
 
 impl Model for Cell {
-    ghost use Rattle.std.specs.Prelude.{◌≤◌, length, IfSome};
     ghost use Rattle.group.specs.Cells.{CellState as State, all_tallies};
-    ghost use Rattle.values.specs.declared.TheConstants.{MAX_COLUMNS};
 
     ghost Value = { State };
 
@@ -465,11 +533,12 @@ impl Model for Cell {
           tallies = all_tallies c.more c.tallies.items;
           shown = c.shown;
         } };
-
-    ghost invariant = { λ c. IfSome c.shown (λ values. length values.items ≤ MAX_COLUMNS) };
 }
 
 /// Lets a row of a batch enter or leave each tally.
+///
+/// # Errors
+/// `AllocError` when out of memory; then nothing has changed.
 fn take_tallies(
     tallies: &mut Vec<Tally>,
     items: &[ListItem],
@@ -482,44 +551,53 @@ fn take_tallies(
     ensures tallies { OnOk result (tallies.new.items
         ≡ tallies_after (row_in batch.now place) items.now tallies.old.items) }
     ensures range { OnOk result (ReadsInRange items.now (row_in batch.now place)) }
+    ensures err { OnErr result (tallies.new.items ≡ tallies.old.items) }
 {
     let enters = enters(batch, place);
     for i in 0..items.len() {
         let item = items[i];
-        tallies[i].take(enters, keeps(item), number_at(item, batch, place))?;
+        let taken = tallies[i].take(enters, keeps(item), number_at(item, batch, place));
+        if let Err(error) = taken {
+            give_back(tallies, items, batch, place, i);
+            return Err(error);
+        }
     }
     Ok(())
 }
 
+/// Lets a row of a batch leave each of the first `count` tallies. Takes no memory.
+fn give_back(
+    tallies: &mut Vec<Tally>,
+    items: &[ListItem],
+    batch: &Batch,
+    place: usize,
+    count: usize,
+)
+    requires within { place < length batch.now }
+    requires few { count ≤ length items.now }
+    requires aligned { length tallies.old.items ≡ length items.now }
+    requires room { All (TallyRoom (2 ^ 62 + 1025)) tallies.old.items }
+    ensures { tallies.new.items ≡ partly (tally_after (false, (row_in batch.now place).1))
+        count items.now tallies.old.items }
+{
+    for i in 0..count {
+        let item = items[i];
+        tallies[i].take_back(keeps(item), number_at(item, batch, place));
+    }
+}
+
 /// Appends `more` tallies of no numbers.
+///
+/// # Errors
+/// `AllocError` when out of memory; then nothing has changed.
 fn add_tallies(alloc: Global, tallies: &mut Vec<Tally>, more: usize) -> Result<(), AllocError>
-    ensures { OnOk result (tallies.new.items ≡ all_tallies more tallies.old.items) }
+    ensures ok { OnOk result (tallies.new.items ≡ all_tallies more tallies.old.items) }
+    ensures err { OnErr result (tallies.new.items ≡ tallies.old.items) }
 {
     tallies.reserve_exact(more)?;
     for _ in 0..more {
         tallies.push_reserved(Tally::new(alloc));
     }
-    Ok(())
-}
-
-/// Appends `more` tallies of no numbers, then lets a row of a batch enter or leave each tally.
-fn take_row(
-    alloc: Global,
-    tallies: &mut Vec<Tally>,
-    more: usize,
-    items: &[ListItem],
-    batch: &Batch,
-    place: usize,
-) -> Result<(), AllocError>
-    requires within { place < length batch.now }
-    requires aligned { length (all_tallies more tallies.old.items) ≡ length items.now }
-    requires room { All (TallyRoom (2 ^ 62 + 1024)) (all_tallies more tallies.old.items) }
-    ensures tallies { OnOk result (tallies.new.items ≡ tallies_after (row_in batch.now place)
-        items.now (all_tallies more tallies.old.items)) }
-    ensures range { OnOk result (ReadsInRange items.now (row_in batch.now place)) }
-{
-    add_tallies(alloc, tallies, more)?;
-    take_tallies(tallies, items, batch, place)?;
     Ok(())
 }
 
@@ -547,7 +625,8 @@ fn rows_counted(batch: &Batch) -> i64
     less_twice(batch.len(), count_set(batch.leaving_words()))
 }
 
-/// Lets the rows of a batch enter and leave each tally.
+/// Lets the rows of a batch enter and leave each tally. It takes memory only if an item keeps its
+/// numbers.
 fn take_batches(
     tallies: &mut Vec<Tally>,
     items: &[ListItem],
@@ -558,29 +637,11 @@ fn take_batches(
     ensures tallies { OnOk result (tallies.new.items
         ≡ each (tally_rows batch.now) items.now tallies.old.items) }
     ensures range { OnOk result (AllInRange items.now batch.now) }
+    ensures refused { OnErr result (list_any keeps items.now ≡ true) }
 {
     for place in 0..items.len() {
         tallies[place].take_batch(items[place], batch)?;
     }
-    Ok(())
-}
-
-/// Appends `more` tallies of no numbers, then lets the rows of a batch enter and leave each tally.
-fn take_rows(
-    alloc: Global,
-    tallies: &mut Vec<Tally>,
-    more: usize,
-    items: &[ListItem],
-    batch: &Batch,
-) -> Result<(), AllocError>
-    requires aligned { length (all_tallies more tallies.old.items) ≡ length items.now }
-    requires room { All (TallyRoom (2 ^ 62)) (all_tallies more tallies.old.items) }
-    ensures tallies { OnOk result (tallies.new.items
-        ≡ each (tally_rows batch.now) items.now (all_tallies more tallies.old.items)) }
-    ensures range { OnOk result (AllInRange items.now batch.now) }
-{
-    add_tallies(alloc, tallies, more)?;
-    take_batches(tallies, items, batch)?;
     Ok(())
 }
 
@@ -703,6 +764,9 @@ impl Cell {
 
     /// Lets a row of a batch, which is of this group, enter or leave. It takes memory only for a
     /// number that an item reads.
+    ///
+    /// # Errors
+    /// `AllocError` when out of memory; then nothing has changed.
     #[inline(always)]
     pub(crate) fn take(
         &mut self,
@@ -716,6 +780,7 @@ impl Cell {
         ensures cell { OnOk result (self.new
             ≡ cell_after items.now self.old (row_in batch.now place)) }
         ensures range { OnOk result (ReadsInRange items.now (row_in batch.now place)) }
+        ensures err { OnErr result (self.new ≡ self.old) }
     {
         if reads_any(items) {
             return self.take_read(alloc, items, batch, place);
@@ -738,14 +803,19 @@ impl Cell {
         ensures cell { OnOk result (self.new
             ≡ cell_after items.now self.old (row_in batch.now place)) }
         ensures range { OnOk result (ReadsInRange items.now (row_in batch.now place)) }
+        ensures err { OnErr result (self.new ≡ self.old) }
     {
-        take_row(alloc, &mut self.tallies, self.more, items, batch, place)?;
+        add_tallies(alloc, &mut self.tallies, self.more)?;
         self.more = 0;
+        take_tallies(&mut self.tallies, items, batch, place)?;
         self.rows = counted(self.rows, enters(batch, place));
         Ok(())
     }
 
     /// Takes in the rows of a batch, which are all of this group.
+    ///
+    /// # Errors
+    /// `AllocError` when out of memory; then nothing has changed, if no item keeps its numbers.
     pub(crate) fn take_batch(
         &mut self,
         alloc: Global,
@@ -755,9 +825,11 @@ impl Cell {
         requires { CellRoom (2 ^ 62) items.now self.old }
         ensures cell { OnOk result (self.new ≡ fold (cell_after items.now) self.old batch.now) }
         ensures range { OnOk result (AllInRange items.now batch.now) }
+        ensures err { OnErr result (list_any keeps items.now ≡ false → self.new ≡ self.old) }
     {
-        take_rows(alloc, &mut self.tallies, self.more, items, batch)?;
+        add_tallies(alloc, &mut self.tallies, self.more)?;
         self.more = 0;
+        take_batches(&mut self.tallies, items, batch)?;
         self.rows = count_added(self.rows, rows_counted(batch));
         Ok(())
     }
@@ -800,55 +872,53 @@ impl Cell {
         self.shown.values()
     }
 
-    /// Emits the row that was shown as one that leaves, and shows none.
-    fn show_none(&mut self, rows: &mut SignedRows) -> Result<(), AllocError>
-        ensures cell { OnOk result (self.new ≡ showing self.old None) }
-        ensures rows { OnOk result (rows.new ≡ with_signed rows.old
-            (swap_of rows.old.width self.old.shown None)) }
+    /// Emits the row that was shown as one that leaves.
+    fn put_none(&self, rows: &mut SignedRows) -> Result<(), AllocError>
+        ensures { OnOk result (rows.new ≡ with_signed rows.old
+            (swap_of rows.old.width self.now.shown None)) }
     {
         put_shown(&self.shown, rows)?;
-        self.shown = ShownRow::none();
         Ok(())
     }
 
-    /// Emits the row that was shown as one that leaves and the other as one that enters. The other
-    /// becomes the one that was shown last. If both have memory, the two swap their room.
-    fn show_other(
-        &mut self,
-        alloc: Global,
-        row: &mut Vec<Value>,
-        rows: &mut SignedRows,
-    ) -> Result<(), AllocError>
-        requires { length row.old.items ≤ MAX_COLUMNS }
-        ensures cell { OnOk result (self.new ≡ showing self.old (Some (held row.old.items))) }
-        ensures rows { OnOk result (rows.new ≡ with_signed rows.old
-            (signed_row false rows.old.width self.old.shown
-            ++ signed_row true rows.old.width (Some (held row.old.items)))) }
+    /// Emits the row that was shown as one that leaves and the other as one that enters.
+    fn put_other(&self, row: &[Value], rows: &mut SignedRows) -> Result<(), AllocError>
+        ensures { OnOk result (rows.new ≡ with_signed rows.old
+            (signed_row false rows.old.width self.now.shown
+            ++ signed_row true rows.old.width (Some (held row.now)))) }
     {
         put_shown(&self.shown, rows)?;
         rows.push_fitted(true, row)?;
-        self.shown.put(alloc, row);
         Ok(())
     }
 
-    /// Shows the row with these values. If another was shown, emits that one as leaving and this
-    /// one as entering.
-    fn show_now(
-        &mut self,
+    /// If another row was shown than this one, emits that one as leaving and this one as entering,
+    /// and returns this one.
+    fn plan_row(
+        &self,
         alloc: Global,
-        row: &mut Vec<Value>,
+        row: &[Value],
         rows: &mut SignedRows,
-    ) -> Result<(), AllocError>
-        requires { length row.old.items ≤ MAX_COLUMNS }
-        ensures cell { OnOk result (self.new ≡ showing self.old (Some (held row.old.items))) }
+    ) -> Result<Option<ShownRow>, AllocError>
+        requires { length row.now ≤ MAX_COLUMNS }
+        ensures plan { IfOk result (λ plan.
+            plan ≡ plan_for self.now.shown (Some (held row.now))) }
         ensures rows { OnOk result (rows.new ≡ with_signed rows.old
-            (swap_of rows.old.width self.old.shown (Some (held row.old.items)))) }
+            (swap_of rows.old.width self.now.shown (Some (held row.now)))) }
     {
         if is_shown(&self.shown, row) {
-            return Ok(());
+            return Ok(None);
         }
-        self.show_other(alloc, row, rows)?;
-        Ok(())
+        self.put_other(row, rows)?;
+        let row = ShownRow::of(alloc, row)?;
+        Ok(Some(row))
+    }
+
+    /// Shows this row, or none. Takes no memory.
+    pub(crate) fn put_row(&mut self, row: ShownRow)
+        ensures { self.new ≡ showing self.old row }
+    {
+        self.shown = row;
     }
 
     /// Returns whether the group has rows.
@@ -908,31 +978,29 @@ impl Cell {
         group.is_whole() || 0 < self.rows
     }
 
-    /// Takes a tick. If the row to show differs from the one that was shown, emits that one as
-    /// leaving and the other as entering. Returns whether there is a row to show. `spare` lends
-    /// room for the row; what it holds does not matter.
-    pub(crate) fn swap(
-        &mut self,
+    /// Emits what a tick of the group puts out: if the row to show differs from the one that was
+    /// shown, that one as leaving and the other as entering. Returns the row that the group is to
+    /// show then, or none; `None` if that is what it shows. `spare` lends room for the row; what it
+    /// holds does not matter.
+    pub(crate) fn plan(
+        &self,
         alloc: Global,
         group: &GroupBy,
         key: &[Value],
         spare: &mut Vec<Value>,
         rows: &mut SignedRows,
-    ) -> Result<bool, AllocError>
-        ensures some { IfOk result (λ some. some
-            ≡ is_some (row_at_tick group.now (held key.now) self.old)) }
-        ensures cell { OnOk result (self.new
-            ≡ showing self.old (row_at_tick group.now (held key.now) self.old)) }
+    ) -> Result<Option<ShownRow>, AllocError>
+        ensures plan { IfOk result (λ plan. plan ≡ plan_of group.now (held key.now) self.now) }
         ensures rows { OnOk result (rows.new
-            ≡ put_out group.now (held key.now) self.old rows.old) }
+            ≡ put_out group.now (held key.now) self.now rows.old) }
     {
         if !self.has_row(group) {
-            self.show_none(rows)?;
-            return Ok(false);
+            self.put_none(rows)?;
+            return Ok(Some(ShownRow::none()));
         }
         let quiet = self.shows_key(group, key);
         if quiet {
-            return Ok(true);
+            return Ok(None);
         }
         write_row(
             spare,
@@ -942,7 +1010,6 @@ impl Cell {
             key,
             self.rows,
         )?;
-        self.show_now(alloc, spare, rows)?;
-        Ok(true)
+        self.plan_row(alloc, spare, rows)
     }
 }

@@ -1,22 +1,28 @@
 //! The groups by key, in as little room as their keys need.
 
-ghost use Rattle.std.specs.Prelude.{◌≡◌, ◌≤◌, ◌<◌, ◌^◌, ◌↔◌, [], length, fold, IfOk, IsTrue, OnOk};
+ghost use Rattle.std.specs.Prelude.{◌≡◌, ◌≤◌, ◌<◌, ◌^◌, ◌↔◌, ◌++◌, [], length, fold, take, true, false};
+ghost use Rattle.std.specs.Prelude.{IfErr, IfOk, IsTrue, OnErr, OnOk};
+ghost use Rattle.std.specs.List.{list_any};
 ghost use Rattle.std.specs.BTreeMap.{is_at};
 ghost use Rattle.std.specs.BTreeSet.{insert_key};
 ghost use Rattle.std.specs.Map.{remove_entry};
 ghost use Rattle.group.specs.Batches.{AllInRange, batch_in};
-ghost use Rattle.group.specs.Cells.{held_cmp, CellRoom};
+ghost use Rattle.group.specs.Cells.{held_cmp, keeps, CellRoom};
 ghost use Rattle.group.specs.Rooms.{kept_in, cells_in, touched_in, room_of};
-ghost use Rattle.group.specs.Turns.{cell_of, shown_in, near_at, outputs, shown_after, rows_after};
+ghost use Rattle.group.specs.Turns.{cell_of, shown_in, near_at, out, shown_after, rows_after};
 ghost use Rattle.group.specs.Turns.{CountsUpTo, KeepsRoom};
-ghost use Rattle.op_queue.specs.Flat.{with_signed};
+ghost use Rattle.group.specs.Groups.{no_columns};
+ghost use Rattle.group.specs.Keys.{AreWhole};
+ghost use Rattle.op_queue.specs.Entries.{IsForward};
+ghost use Rattle.op_queue.specs.Queues.{HasGained, HasGrown};
+ghost use Rattle.op_queue.specs.declared.item.Item.TheVariants.{Tick};
 ghost use Rattle.group.specs.Runs.{changes_at, state_with};
 
 use crate::keyed::Keyed;
 use crate::shape::GroupBy;
 use crate::turn::GroupExcerpt;
 use column::Batch;
-use op_queue::SignedRows;
+use op_queue::Queue;
 use std::alloc::{AllocError, Global};
 use values::{ListItem, MAX_COLUMNS, Row};
 
@@ -83,7 +89,9 @@ impl HeldCells {
     /// # Errors
     /// `AllocError` when out of memory; then some groups may be lost.
     fn widened(&mut self, alloc: Global) -> Result<Keyed<MAX_COLUMNS>, AllocError>
-        ensures { IfOk result (λ wider. wider ≡ kept_in self.old) }
+        ensures ok { IfOk result (λ wider. wider ≡ kept_in self.old) }
+        ensures touched { touched_in self.new ≡ touched_in self.old }
+        ensures same_room { room_of self.new ≡ room_of self.old }
     {
         with_keyed!(self, keyed => keyed.widened(alloc))
     }
@@ -97,6 +105,8 @@ impl HeldCells {
         requires { width ≤ MAX_COLUMNS }
         ensures kept { OnOk result (kept_in self.new ≡ kept_in self.old) }
         ensures room { OnOk result (width ≤ room_of self.new) }
+        ensures touched { touched_in self.new ≡ touched_in self.old }
+        ensures wider { room_of self.old ≤ room_of self.new }
     {
         if self.room() < width {
             *self = HeldCells::Widest(self.widened(alloc)?);
@@ -116,30 +126,42 @@ impl HeldCells {
         ensures cells { OnOk result (cells_in self.new ≡ cells_in self.old) }
         ensures touched { OnOk result
             (touched_in self.new ≡ insert_key held_cmp (touched_in self.old) key.now) }
+        ensures wider { room_of self.old ≤ room_of self.new }
     {
         self.make_room(alloc, key.len())?;
         with_keyed!(self, keyed => keyed.touch(key))
     }
 
     /// Lets rows enter and leave, one after the other, and touches their groups.
+    ///
+    /// # Errors
+    /// The place of the first row that was refused memory; the rows before it were taken in, and no
+    /// other.
     pub(crate) fn take_each(
         &mut self,
         alloc: Global,
         group: &GroupBy,
         batch: &Batch,
-    ) -> Result<(), AllocError>
-        requires { CountsUpTo (2 ^ 62) (state_with group.now (kept_in self.old)) }
+    ) -> Result<(), usize>
+        requires fits { length group.now.by ≤ room_of self.old }
+        requires counts { CountsUpTo (2 ^ 62) (state_with group.now (kept_in self.old)) }
         ensures state { OnOk result (state_with group.now (kept_in self.new)
             ≡ rows_after (state_with group.now (kept_in self.old)) batch.now) }
-        ensures room { OnOk result (KeepsRoom (state_with group.now (kept_in self.old))
-            (state_with group.now (kept_in self.new))) }
+        ensures fewer { IfErr result (λ n. n < length batch.now) }
+        ensures some { IfErr result (λ n. state_with group.now (kept_in self.new)
+            ≡ rows_after (state_with group.now (kept_in self.old)) (take n batch.now)) }
+        ensures room { KeepsRoom (state_with group.now (kept_in self.old))
+            (state_with group.now (kept_in self.new)) }
+        ensures same_room { room_of self.new ≡ room_of self.old }
     {
-        self.make_room(alloc, group.by().len())?;
         with_keyed!(self, keyed => keyed.take_each(alloc, group, batch))
     }
 
     /// Takes in a batch of rows of one group, and touches it. The group may be one that is not kept
     /// yet.
+    ///
+    /// # Errors
+    /// `AllocError` when out of memory; then nothing has changed, if no item keeps its numbers.
     pub(crate) fn take_batch_in(
         &mut self,
         alloc: Global,
@@ -147,15 +169,18 @@ impl HeldCells {
         key: &Row,
         batch: &Batch,
     ) -> Result<(), AllocError>
-        requires { CellRoom (2 ^ 62) items.now
+        requires fits { length key.now.items ≤ room_of self.old }
+        requires room { CellRoom (2 ^ 62) items.now
             (cell_of (length items.now) key.now (cells_in self.old)) }
         ensures cells { OnOk result (cells_in self.new
             ≡ batch_in items.now key.now batch.now (cells_in self.old)) }
         ensures touched { OnOk result
             (touched_in self.new ≡ insert_key held_cmp (touched_in self.old) key.now) }
         ensures range { OnOk result (AllInRange items.now batch.now) }
+        ensures err { OnErr result
+            (list_any keeps items.now ≡ false → kept_in self.new ≡ kept_in self.old) }
+        ensures same_room { room_of self.new ≡ room_of self.old }
     {
-        self.make_room(alloc, key.len())?;
         with_keyed!(self, keyed => keyed.take_batch_in(alloc, items, key, batch))
     }
 
@@ -167,8 +192,10 @@ impl HeldCells {
         key: &Row,
         row: &Row,
     ) -> Result<(), AllocError>
-        ensures { OnOk result (cells_in self.new
+        ensures cells { OnOk result (cells_in self.new
             ≡ shown_in count key.now row.now (cells_in self.old)) }
+        ensures touched { touched_in self.new ≡ touched_in self.old }
+        ensures wider { room_of self.old ≤ room_of self.new }
     {
         self.make_room(alloc, key.len())?;
         with_keyed!(self, keyed => keyed.show_in(alloc, count, key, row))
@@ -176,35 +203,49 @@ impl HeldCells {
 
     /// Drops the group with this key. Takes no memory.
     pub(crate) fn remove(&mut self, key: &Row)
-        ensures { cells_in self.new ≡ remove_entry (is_at (held_cmp key.now)) (cells_in self.old) }
+        ensures cells { cells_in self.new
+            ≡ remove_entry (is_at (held_cmp key.now)) (cells_in self.old) }
+        ensures touched { touched_in self.new ≡ touched_in self.old }
+        ensures same_room { room_of self.new ≡ room_of self.old }
     {
         with_keyed!(self, keyed => keyed.remove(key))
     }
 
-    /// Takes a tick of the touched groups, in the order of their keys. Each emits what it has to
-    /// and shows its row. One without a row to show is dropped. Then none is touched.
-    pub(crate) fn swap_touched(
+    /// Takes the tick of an instant. The touched groups put out what they have to, in the order of
+    /// their keys, then comes the tick. Each group shows its row; one without a row is dropped. Then
+    /// none is touched.
+    ///
+    /// # Errors
+    /// `AllocError` when out of memory; then the groups and the touched keys are as they were.
+    pub(crate) fn run_tick(
         &mut self,
         alloc: Global,
         group: &GroupBy,
-        rows: &mut SignedRows,
+        at: u64,
+        queue: &mut Queue,
     ) -> Result<(), AllocError>
-        requires { rows.old.width ≡ length group.now.items }
+        requires forward { IsForward (queue.old.entries ++ out group.now (Tick at)
+            (near_at group.now.items (cells_in self.old) (touched_in self.old))) }
+        requires whole { no_columns group.now.by ≡ true → AreWhole (touched_in self.old) }
         ensures cells { OnOk result (cells_in self.new
             ≡ fold (shown_after (length group.now.items)) (cells_in self.old)
             (changes_at group.now (cells_in self.old) (touched_in self.old))) }
         ensures touched { OnOk result (touched_in self.new ≡ []) }
-        ensures rows { OnOk result (rows.new ≡ with_signed rows.old
-            (outputs group.now
-            (near_at group.now.items (cells_in self.old) (touched_in self.old)))) }
+        ensures gained { OnOk result (HasGained (out group.now (Tick at)
+            (near_at group.now.items (cells_in self.old) (touched_in self.old)))
+            queue.old queue.new) }
+        ensures err { OnErr result (kept_in self.new ≡ kept_in self.old) }
+        ensures grown { OnErr result (HasGrown queue.old queue.new) }
+        ensures same_room { room_of self.new ≡ room_of self.old }
     {
-        with_keyed!(self, keyed => keyed.swap_touched(alloc, group, rows))
+        with_keyed!(self, keyed => keyed.run_tick(alloc, group, at, queue))
     }
 
     /// Marks every group as not touched.
     pub(crate) fn forget_touched(&mut self, alloc: Global)
         ensures cells { cells_in self.new ≡ cells_in self.old }
         ensures touched { touched_in self.new ≡ [] }
+        ensures same_room { room_of self.new ≡ room_of self.old }
     {
         with_keyed!(self, keyed => keyed.forget_touched(alloc))
     }

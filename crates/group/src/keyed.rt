@@ -1,33 +1,41 @@
 //! Groups by keys of few values, and the keys that rows touched.
 
 ghost use Rattle.std.specs.Prelude.{◌≡◌, ◌≤◌, ◌<◌, ◌+◌, ◌^◌, ◌++◌, ◌↔◌, [], cond, false, length};
-ghost use Rattle.std.specs.Prelude.{fold, IfOk, IsTrue, OnOk};
+ghost use Rattle.std.specs.Prelude.{drop, fold, get_or, take, true, vec_len, vec_capacity, None};
+ghost use Rattle.std.specs.Prelude.{IfErr, IfOk, IsTrue, OnErr, OnOk};
 ghost use Rattle.std.specs.BTreeMap.{is_at};
 ghost use Rattle.std.specs.BTreeSet.{insert_key};
 ghost use Rattle.std.specs.Map.{remove_entry};
-ghost use Rattle.std.specs.List.{All};
+ghost use Rattle.std.specs.List.{All, list_any};
 ghost use Rattle.std.specs.List.Sorted.{IsStrictlySortedBy};
 ghost use Rattle.group.specs.Batches.{AllInRange, batch_in, row_in};
-ghost use Rattle.group.specs.Cells.{held_cmp, CellRoom, ReadsInRange};
-ghost use Rattle.group.specs.Keys.{in_set};
+ghost use Rattle.group.specs.Cells.{held_cmp, keeps, CellRoom, ReadsInRange};
+ghost use Rattle.group.specs.Keys.{in_set, AreWhole};
 ghost use Rattle.group.specs.Quiet.{ListsKeys};
 ghost use Rattle.group.specs.Turns.{cell_of, has_key, taken_in, shown_in, excerpt, row_key};
 ghost use Rattle.group.specs.Turns.{rows_after, CountsUpTo, KeepsRoom};
-ghost use Rattle.group.specs.Turns.{near_at, outputs, shown_after};
+ghost use Rattle.group.specs.Turns.{near_at, out, outputs, shown_after};
 ghost use Rattle.op_queue.specs.Flat.{with_signed};
-ghost use Rattle.group.specs.Runs.{changes_at, put_out, state_with, swapped};
+ghost use Rattle.group.specs.Runs.{changes_at, state_with};
+ghost use Rattle.group.specs.Plans.{plans_at, put_all, put_one, without_first, Begun};
+ghost use Rattle.group.specs.Groups.{no_columns};
+ghost use Rattle.op_queue.specs.Entries.{IsForward};
+ghost use Rattle.op_queue.specs.Queues.{HasGained, HasGrown};
+ghost use Rattle.op_queue.specs.declared.item.Item.TheVariants.{Tick};
 ghost use Rattle.group.specs.Touched.{TouchedMore};
 
 use crate::cells::{Cell, Figure};
 use crate::key::GroupKey;
 use crate::shape::GroupBy;
+use crate::shown_row::ShownRow;
 use crate::slots::{Slots, Taken};
 use crate::touch::Touch;
 use crate::turn::{GroupExcerpt, Touched};
 use column::Batch;
-use op_queue::SignedRows;
+use op_queue::{Item, Queue, SignedRows};
 use std::alloc::{AllocError, Global};
 use std::marker::Model;
+use std::mem;
 use values::{ListItem, MAX_COLUMNS, Row, Value};
 
 /// Is the most keys whose room each of the two lists keeps for the next instant.
@@ -98,34 +106,46 @@ impl<const N: usize> Keyed<N> {
             (self.new.touched ≡ insert_key held_cmp self.old.touched key.now) }
     {
         self.are_quiet = false;
-        touch(&mut self.touched, GroupKey::of(key), 0)?;
+        make_room(&mut self.touched)?;
+        touch(&mut self.touched, GroupKey::of(key), 0);
         Ok(())
     }
 
     /// Lets rows enter and leave, one after the other, and touches their groups.
+    ///
+    /// # Errors
+    /// The place of the first row that was refused memory; the rows before it were taken in, and no
+    /// other.
     pub(crate) fn take_each(
         &mut self,
         alloc: Global,
         group: &GroupBy,
         batch: &Batch,
-    ) -> Result<(), AllocError>
+    ) -> Result<(), usize>
         requires narrow { N ≤ MAX_COLUMNS }
         requires fits { length group.now.by ≤ N }
         requires counts { CountsUpTo (2 ^ 62) (state_with group.now self.old) }
         ensures state { OnOk result (state_with group.now self.new
             ≡ rows_after (state_with group.now self.old) batch.now) }
-        ensures room { OnOk result
-            (KeepsRoom (state_with group.now self.old) (state_with group.now self.new)) }
+        ensures fewer { IfErr result (λ n. n < length batch.now) }
+        ensures some { IfErr result (λ n. state_with group.now self.new
+            ≡ rows_after (state_with group.now self.old) (take n batch.now)) }
+        ensures room { KeepsRoom (state_with group.now self.old) (state_with group.now self.new) }
     {
         let asks = group.lists_key(group.by().len());
         for place in 0..batch.len() {
-            self.take_in(alloc, group, batch, place, asks)?;
+            if let Err(_) = self.take_in(alloc, group, batch, place, asks) {
+                return Err(place);
+            }
         }
         Ok(())
     }
 
     /// Lets a row of a batch enter or leave its group, which the map may not have, and touches it.
     /// If `asks` is set, it asks whether the group is quiet.
+    ///
+    /// # Errors
+    /// `AllocError` when out of memory; then nothing has changed.
     fn take_in(
         &mut self,
         alloc: Global,
@@ -146,13 +166,14 @@ impl<const N: usize> Keyed<N> {
         ensures touched { OnOk result (self.new.touched
             ≡ insert_key held_cmp self.old.touched (row_key group.now (row_in batch.now place))) }
         ensures range { OnOk result (ReadsInRange group.now.items (row_in batch.now place)) }
+        ensures err { OnErr result (self.new ≡ self.old) }
     {
         let key = GroupKey::at(group.by(), batch, place);
         self.take_key(alloc, group.items(), key, batch, place, asks)?;
         Ok(())
     }
 
-    /// Does the same for the group with this key.
+    /// Does the same for the group with this key. What needs memory comes first.
     fn take_key(
         &mut self,
         alloc: Global,
@@ -171,7 +192,12 @@ impl<const N: usize> Keyed<N> {
         ensures touched { OnOk result
             (self.new.touched ≡ insert_key held_cmp self.old.touched key.entry) }
         ensures range { OnOk result (ReadsInRange items.now (row_in batch.now place)) }
+        ensures err { OnErr result (self.new ≡ self.old) }
     {
+        if let Err(error) = make_rooms(&mut self.touched, &mut self.quiet) {
+            self.are_quiet = false;
+            return Err(error);
+        }
         let taken = match self.cells.take(alloc, items, &key, batch, place, asks) {
             Ok(taken) => taken,
             Err(error) => {
@@ -179,14 +205,14 @@ impl<const N: usize> Keyed<N> {
                 return Err(error);
             }
         };
-        if let Err(error) = touch_either(&mut self.touched, &mut self.quiet, key, &taken) {
-            self.are_quiet = false;
-            return Err(error);
-        }
+        touch_either(&mut self.touched, &mut self.quiet, key, &taken);
         Ok(())
     }
 
     /// Takes in a batch of rows of one group, and touches it. The map may not have the group.
+    ///
+    /// # Errors
+    /// `AllocError` when out of memory; then nothing has changed, if no item keeps its numbers.
     pub(crate) fn take_batch_in(
         &mut self,
         alloc: Global,
@@ -202,11 +228,13 @@ impl<const N: usize> Keyed<N> {
         ensures touched { OnOk result
             (self.new.touched ≡ insert_key held_cmp self.old.touched key.now) }
         ensures range { OnOk result (AllInRange items.now batch.now) }
+        ensures err { OnErr result (list_any keeps items.now ≡ false → self.new ≡ self.old) }
     {
         self.are_quiet = false;
+        make_room(&mut self.touched)?;
         let key = GroupKey::of(key);
         let at = self.cells.take_batch(alloc, items, &key, batch)?;
-        touch(&mut self.touched, key, at)?;
+        touch(&mut self.touched, key, at);
         Ok(())
     }
 
@@ -239,29 +267,37 @@ impl<const N: usize> Keyed<N> {
         self.cells.remove_row(key);
     }
 
-    /// Takes a tick of the touched groups, in the order of their keys. Each emits what it has to
-    /// and shows its row. One without a row to show is dropped. Then none is touched.
+    /// Takes the tick of an instant. The touched groups put out what they have to, in the order of
+    /// their keys, then comes the tick. Each group shows its row; one without a row is dropped. Then
+    /// none is touched.
     ///
-    /// It reserves room at once for the two rows that each of the first 512 groups may emit.
-    pub(crate) fn swap_touched(
+    /// What needs memory comes first: only then do the groups change.
+    ///
+    /// # Errors
+    /// `AllocError` when out of memory; then the groups and the touched keys are as they were.
+    pub(crate) fn run_tick(
         &mut self,
         alloc: Global,
         group: &GroupBy,
-        rows: &mut SignedRows,
+        at: u64,
+        queue: &mut Queue,
     ) -> Result<(), AllocError>
-        requires { rows.old.width ≡ length group.now.items }
+        requires forward { IsForward (queue.old.entries ++ out group.now (Tick at)
+            (near_at group.now.items self.old.cells self.old.touched)) }
+        requires whole { no_columns group.now.by ≡ true → AreWhole self.old.touched }
         ensures cells { OnOk result (self.new.cells
             ≡ fold (shown_after (length group.now.items)) self.old.cells
             (changes_at group.now self.old.cells self.old.touched)) }
         ensures touched { OnOk result (self.new.touched ≡ []) }
-        ensures rows { OnOk result (rows.new ≡ with_signed rows.old
-            (outputs group.now (near_at group.now.items self.old.cells self.old.touched))) }
+        ensures gained { OnOk result (HasGained (out group.now (Tick at)
+            (near_at group.now.items self.old.cells self.old.touched)) queue.old queue.new) }
+        ensures err { OnErr result (self.new ≡ self.old) }
+        ensures grown { OnErr result (HasGrown queue.old queue.new) }
     {
         let pass_over = may_pass_over(self.are_quiet, group, &self.quiet);
         self.are_quiet = false;
         gather(&mut self.touched, &mut self.quiet, pass_over)?;
-        rows.reserve(2 * self.touched.len().min(512))?;
-        swap_all(&mut self.cells, alloc, group, &self.touched, rows)?;
+        swap_all(&mut self.cells, alloc, group, at, &self.touched, queue)?;
         self.forget_touched(alloc);
         Ok(())
     }
@@ -340,7 +376,8 @@ impl<const N: usize> Keyed<N> {
     /// # Errors
     /// `AllocError` when out of memory; then some groups may be lost.
     pub(crate) fn widened(&mut self, alloc: Global) -> Result<Keyed<MAX_COLUMNS>, AllocError>
-        ensures { IfOk result (λ wider. wider ≡ self.old) }
+        ensures ok { IfOk result (λ wider. wider ≡ self.old) }
+        ensures touched { self.new.touched ≡ self.old.touched }
     {
         self.are_quiet = false;
         let mut touched = Vec::new(alloc);
@@ -405,66 +442,80 @@ fn gather<const N: usize>(
     quiet: &mut Vec<Touch<N>>,
     pass_over: bool,
 ) -> Result<(), AllocError>
-    ensures { OnOk result (touched.new.items ≡ cond pass_over (in_set touched.old.items)
+    ensures keys { OnOk result (touched.new.items ≡ cond pass_over (in_set touched.old.items)
         (in_set (touched.old.items ++ quiet.old.items))) }
+    ensures same { in_set (touched.new.items ++ quiet.new.items)
+        ≡ in_set (touched.old.items ++ quiet.old.items) }
 {
-    if !pass_over {
-        touched.append(quiet)?;
+    if pass_over {
+        settle(touched);
+        return Ok(());
     }
+    touched.append(quiet)?;
     settle(touched);
     Ok(())
 }
 
-/// Appends the key of a group, which is at the place.
-fn touch<const N: usize>(
-    touched: &mut Vec<Touch<N>>,
-    key: GroupKey<N>,
-    place: usize,
-) -> Result<(), AllocError>
-    ensures { OnOk result
-        (in_set touched.new.items ≡ insert_key held_cmp (in_set touched.old.items) key.entry) }
+/// Appends the key of a group, which is at the place. Takes no memory.
+fn touch<const N: usize>(touched: &mut Vec<Touch<N>>, key: GroupKey<N>, place: usize)
+    requires { vec_len touched.old < vec_capacity touched.old }
+    ensures { in_set touched.new.items
+        ≡ insert_key held_cmp (in_set touched.old.items) key.entry }
 {
-    make_room(touched)?;
-    touched.push(Touch::new(key, place))?;
-    Ok(())
+    touched.push_reserved(Touch::new(key, place));
 }
 
-/// Appends a key to the second list if its group is quiet, else to the first.
+/// Appends a key to the second list if its group is quiet, else to the first. Takes no memory.
 fn touch_either<const N: usize>(
     touched: &mut Vec<Touch<N>>,
     quiet: &mut Vec<Touch<N>>,
     key: GroupKey<N>,
     taken: &Taken,
-) -> Result<(), AllocError>
-    ensures touched { OnOk result (in_set touched.new.items
+)
+    requires touched { vec_len touched.old < vec_capacity touched.old }
+    requires quiet { vec_len quiet.old < vec_capacity quiet.old }
+    ensures touched { in_set touched.new.items
         ≡ cond taken.now.is_quiet (in_set touched.old.items)
-        (insert_key held_cmp (in_set touched.old.items) key.entry)) }
-    ensures quiet { OnOk result (in_set quiet.new.items
+        (insert_key held_cmp (in_set touched.old.items) key.entry) }
+    ensures quiet { in_set quiet.new.items
         ≡ cond taken.now.is_quiet (insert_key held_cmp (in_set quiet.old.items) key.entry)
-        (in_set quiet.old.items)) }
+        (in_set quiet.old.items) }
 {
     if taken.is_quiet {
-        touch(quiet, key, taken.place)?;
+        touch(quiet, key, taken.place);
     } else {
-        touch(touched, key, taken.place)?;
+        touch(touched, key, taken.place);
     }
+}
+
+/// Makes room in both lists for one key more. Both have the same keys as before, refused or not.
+fn make_rooms<const N: usize>(
+    touched: &mut Vec<Touch<N>>,
+    quiet: &mut Vec<Touch<N>>,
+) -> Result<(), AllocError>
+    ensures touched { in_set touched.new.items ≡ in_set touched.old.items }
+    ensures quiet { in_set quiet.new.items ≡ in_set quiet.old.items }
+    ensures first { OnOk result (vec_len touched.new < vec_capacity touched.new) }
+    ensures second { OnOk result (vec_len quiet.new < vec_capacity quiet.new) }
+{
+    make_room(touched)?;
+    make_room(quiet)?;
     Ok(())
 }
 
 /// Makes room for one key more. Before the list grows, keys that are in it more than once leave it.
-/// So its room is at most some four times the keys that differ.
+/// So its room is at most some four times the keys that differ. The list has the same keys as
+/// before, refused or not.
 fn make_room<const N: usize>(touched: &mut Vec<Touch<N>>) -> Result<(), AllocError>
-    ensures { OnOk result (in_set touched.new.items ≡ in_set touched.old.items) }
+    ensures same { in_set touched.new.items ≡ in_set touched.old.items }
+    ensures room { OnOk result (vec_len touched.new < vec_capacity touched.new) }
 {
     if touched.len() < touched.capacity() {
         return Ok(());
     }
     settle(touched);
-    let count = touched.len();
-    if count <= touched.capacity() / 2 {
-        return Ok(());
-    }
-    touched.reserve(count)?;
+    let more = touched.len().max(1);
+    touched.reserve(more)?;
     Ok(())
 }
 
@@ -487,79 +538,172 @@ fn forget<const N: usize>(touched: &mut Vec<Touch<N>>, alloc: Global)
     }
 }
 
-/// Takes a tick of the groups with these keys, in their order.
+/// Takes the tick of an instant of the groups with these keys, in their order. They put out what they
+/// have to, then comes the tick. Each group shows its row; one without a row is dropped.
+///
+/// # Errors
+/// `AllocError` when out of memory; then the groups are as they were.
 fn swap_all<const N: usize>(
     cells: &mut Slots<N>,
     alloc: Global,
     group: &GroupBy,
+    at: u64,
     touched: &[Touch<N>],
-    rows: &mut SignedRows,
+    queue: &mut Queue,
 ) -> Result<(), AllocError>
-    requires room { N ≤ MAX_COLUMNS }
     requires sorted { IsStrictlySortedBy held_cmp touched.now }
-    requires width { rows.old.width ≡ length group.now.items }
+    requires whole { no_columns group.now.by ≡ true → AreWhole touched.now }
+    requires forward { IsForward (queue.old.entries ++ out group.now (Tick at)
+        (near_at group.now.items cells.old.entries touched.now)) }
     ensures cells { OnOk result (cells.new.entries
         ≡ fold (shown_after (length group.now.items)) cells.old.entries
         (changes_at group.now cells.old.entries touched.now)) }
+    ensures gained { OnOk result (HasGained (out group.now (Tick at)
+        (near_at group.now.items cells.old.entries touched.now)) queue.old queue.new) }
+    ensures err { OnErr result (cells.new.entries ≡ cells.old.entries) }
+    ensures grown { OnErr result (HasGrown queue.old queue.new) }
+{
+    let made = begin(cells, alloc, group, touched)?;
+    let plans = match put_tick(cells, alloc, group, at, touched, queue) {
+        Ok(plans) => plans,
+        Err(error) => {
+            take_back(cells, touched, made);
+            return Err(error);
+        }
+    };
+    show_all(cells, touched, plans);
+    Ok(())
+}
+
+/// Makes the one group without Group By, if it is touched and not there. Returns whether it did.
+///
+/// # Errors
+/// `AllocError` when out of memory; then nothing has changed.
+fn begin<const N: usize>(
+    cells: &mut Slots<N>,
+    alloc: Global,
+    group: &GroupBy,
+    touched: &[Touch<N>],
+) -> Result<bool, AllocError>
+    requires sorted { IsStrictlySortedBy held_cmp touched.now }
+    requires whole { no_columns group.now.by ≡ true → AreWhole touched.now }
+    ensures begun { IfOk result
+        (λ made. Begun group.now touched.now cells.old.entries cells.new.entries made) }
+    ensures err { OnErr result (cells.new ≡ cells.old) }
+{
+    if !group.is_whole() {
+        return Ok(false);
+    }
+    if touched.is_empty() {
+        return Ok(false);
+    }
+    let key = touched[0].key();
+    if cells.get(key).is_some() {
+        return Ok(false);
+    }
+    cells.insert(key, Cell::new(alloc, group.items().len()))?;
+    Ok(true)
+}
+
+/// Drops the group that `begin` made, the first of these, if it made one. Takes no memory.
+fn take_back<const N: usize>(cells: &mut Slots<N>, touched: &[Touch<N>], made: bool)
+    ensures { cells.new.entries
+        ≡ cond made (without_first touched.now cells.old.entries) cells.old.entries }
+{
+    if !made {
+        return;
+    }
+    if touched.is_empty() {
+        return;
+    }
+    cells.remove(touched[0].key());
+}
+
+/// Pushes what a tick of the groups with these keys puts out, in their order, and then the tick.
+/// Returns what each group is to show then, as `Cell::plan` does.
+///
+/// It reserves room at once for the two rows that each of the first 512 groups may emit.
+fn put_tick<const N: usize>(
+    cells: &Slots<N>,
+    alloc: Global,
+    group: &GroupBy,
+    at: u64,
+    touched: &[Touch<N>],
+    queue: &mut Queue,
+) -> Result<Vec<Option<ShownRow>>, AllocError>
+    requires { IsForward (queue.old.entries ++ out group.now (Tick at)
+        (near_at group.now.items cells.now.entries touched.now)) }
+    ensures plans { IfOk result
+        (λ plans. plans.items ≡ plans_at group.now cells.now.entries touched.now) }
+    ensures gained { OnOk result (HasGained (out group.now (Tick at)
+        (near_at group.now.items cells.now.entries touched.now)) queue.old queue.new) }
+    ensures grown { OnErr result (HasGrown queue.old queue.new) }
+{
+    let mut rows = SignedRows::new(alloc, group.items().len());
+    rows.reserve(2 * touched.len().min(512))?;
+    let plans = plan_all(cells, alloc, group, touched, &mut rows)?;
+    rows.put(alloc, at, queue)?;
+    queue.push(Item::Tick(at))?;
+    Ok(plans)
+}
+
+/// Emits what a tick of the groups with these keys puts out, in their order. Returns what each is to
+/// show then, as `Cell::plan` does.
+fn plan_all<const N: usize>(
+    cells: &Slots<N>,
+    alloc: Global,
+    group: &GroupBy,
+    touched: &[Touch<N>],
+    rows: &mut SignedRows,
+) -> Result<Vec<Option<ShownRow>>, AllocError>
+    requires { rows.old.width ≡ length group.now.items }
+    ensures plans { IfOk result
+        (λ plans. plans.items ≡ plans_at group.now cells.now.entries touched.now) }
     ensures rows { OnOk result (rows.new ≡ with_signed rows.old
-        (outputs group.now (near_at group.now.items cells.old.entries touched.now))) }
+        (outputs group.now (near_at group.now.items cells.now.entries touched.now))) }
 {
     let mut spare = Vec::new(alloc);
+    let mut plans = Vec::with_capacity(alloc, touched.len())?;
     for touch in touched {
-        swap_in(cells, alloc, group, touch, &mut spare, rows)?;
+        let plan = cells.plan(alloc, group, touch.key(), touch.place(), &mut spare, rows)?;
+        plans.push(plan)?;
     }
-    Ok(())
+    Ok(plans)
 }
 
-/// Takes a tick of a group, which may not be there. It emits what it has to and shows its row. One
-/// without a row to show is dropped.
-fn swap_in<const N: usize>(
+/// Lets the groups with these keys show what was planned for them. Takes no memory.
+fn show_all<const N: usize>(
     cells: &mut Slots<N>,
-    alloc: Global,
-    group: &GroupBy,
-    touch: &Touch<N>,
-    spare: &mut Vec<Value>,
-    rows: &mut SignedRows,
-) -> Result<(), AllocError>
-    requires { N ≤ MAX_COLUMNS }
-    ensures cells { OnOk result
-        (cells.new.entries ≡ swapped group.now touch.now cells.old.entries) }
-    ensures rows { OnOk result (rows.new ≡ put_out group.now touch.now
-        (cell_of (length group.now.items) touch.now cells.old.entries) rows.old) }
+    touched: &[Touch<N>],
+    plans: Vec<Option<ShownRow>>,
+)
+    requires { length plans.items ≡ length touched.now }
+    ensures { cells.new.entries ≡ put_all touched.now plans.items cells.old.entries }
 {
-    let key = touch.key();
-    match cells.swap(alloc, group, key, touch.place(), spare, rows)? {
-        Some(true) => Ok(()),
-        Some(false) => {
-            cells.remove(key);
-            Ok(())
-        }
-        None => swap_new(cells, alloc, group, key, spare, rows),
+    let mut plans = plans;
+    for place in 0..touched.len() {
+        let plan = plan_at(&mut plans, place);
+        put_plan(cells, &touched[place], plan);
     }
 }
 
-/// Takes a tick of a group that is not there.
-fn swap_new<const N: usize>(
-    cells: &mut Slots<N>,
-    alloc: Global,
-    group: &GroupBy,
-    key: &GroupKey<N>,
-    spare: &mut Vec<Value>,
-    rows: &mut SignedRows,
-) -> Result<(), AllocError>
-    requires room { N ≤ MAX_COLUMNS }
-    requires new { has_key key.now cells.old.entries ≡ false }
-    ensures cells { OnOk result (cells.new.entries ≡ swapped group.now key.now cells.old.entries) }
-    ensures rows { OnOk result (rows.new ≡ put_out group.now key.now
-        (cell_of (length group.now.items) key.now cells.old.entries) rows.old) }
+/// Lets a group show what was planned for it. Takes no memory.
+fn put_plan<const N: usize>(cells: &mut Slots<N>, touch: &Touch<N>, plan: Option<ShownRow>)
+    ensures { cells.new.entries ≡ put_one touch.now plan cells.old.entries }
 {
-    let mut cell = Cell::new(alloc, group.items().len());
-    let some = cell.swap(alloc, group, key.values(), spare, rows)?;
-    if !some {
-        return Ok(());
+    if let Some(row) = plan {
+        cells.put_row(touch.key(), touch.place(), row);
     }
-    cells.insert(key, cell)?;
-    Ok(())
+}
+
+/// Takes out the plan at a place.
+fn plan_at(plans: &mut Vec<Option<ShownRow>>, place: usize) -> Option<ShownRow>
+    requires { place < length plans.old.items }
+    ensures value { result ≡ get_or plans.old.items place None }
+    ensures rest { drop (place + 1) plans.new.items ≡ drop (place + 1) plans.old.items }
+    ensures len { length plans.new.items ≡ length plans.old.items }
+{
+    mem::replace(&mut plans[place], None)
 }
 
 /// Appends what a touched group has to show. `spare` lends room for its figures.

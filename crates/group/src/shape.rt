@@ -1,10 +1,12 @@
 //! What a query groups by, and what it lists of each group.
 
 ghost use Rattle.std.specs.Prelude.{◌≡◌, ◌↔◌, ◌≤◌, IsTrue, length, map, IfOk};
-ghost use Rattle.std.specs.List.{range_with_len};
+ghost use Rattle.std.specs.List.{list_any, range_with_len};
+ghost use Rattle.group.specs.Cells.{keeps};
 ghost use Rattle.values.specs.declared.resolved.ListItem.TheVariants.{Key};
 ghost use Rattle.group.specs.Groups.{once_each, no_columns};
 
+use crate::cells::keeps_any;
 use std::alloc::{AllocError, Global};
 use std::marker::Model;
 use values::{ListItem, MAX_COLUMNS, SourceColumn};
@@ -91,6 +93,13 @@ impl GroupBy {
     {
         let _ = &self.items; // for the proof
         lists_key(&self.items, width)
+    }
+
+    /// Returns whether an item keeps each number that it reads, as Min and Max do.
+    pub(crate) fn keeps_any(&self) -> bool
+        ensures { result ≡ list_any keeps self.now.items }
+    {
+        keeps_any(&self.items)
     }
 
     /// Returns whether there is no column of Group By. Then there is one group, even of no rows.

@@ -1,8 +1,9 @@
 //! The row that a group showed last.
 
-ghost use Rattle.std.specs.Prelude.{◌≡◌, IfOk, OnOk, OnErr, None, Some};
-ghost use Rattle.std.specs.Option.{option_map};
+ghost use Rattle.std.specs.Prelude.{◌≡◌, ◌≤◌, length, IfOk, IfSome, OnOk, OnErr, None, Some};
+ghost use Rattle.std.specs.Option.{is_some, option_map};
 ghost use Rattle.group.specs.Cells.{held};
+ghost use Rattle.values.specs.declared.TheConstants.{MAX_COLUMNS};
 
 use std::alloc::{AllocError, Global};
 use std::marker::Model;
@@ -28,13 +29,17 @@ pub(crate) struct ShownRow {
 }
 
 impl Model for ShownRow {
-    ghost use Rattle.std.specs.Prelude.{Option};
+    ghost use Rattle.std.specs.Prelude.{◌≤◌, length, IfSome, Option};
     ghost use Rattle.group.specs.Cells.{Held};
     ghost use Rattle.group.specs.ShownRows.{row_in_place};
+    ghost use Rattle.values.specs.declared.TheConstants.{MAX_COLUMNS};
 
     ghost Value = { Option Held };
 
     ghost view = { λ r. row_in_place r.place };
+
+    ghost invariant = { λ r. IfSome (row_in_place r.place)
+        (λ values. length values.items ≤ MAX_COLUMNS) };
 }
 
 impl ShownRow {
@@ -49,12 +54,24 @@ impl ShownRow {
 
     /// Returns the values of the row.
     pub(crate) fn values(&self) -> Option<&[Value]>
-        ensures { option_map (λ values. held values.now) result ≡ self.now }
+        ensures value { option_map (λ values. held values.now) result ≡ self.now }
+        ensures few { IfSome result (λ values. length values.now ≤ MAX_COLUMNS) }
     {
         match &self.place {
             RowPlace::None => None,
             RowPlace::One(value) => Some(slice::from_ref(value)),
             RowPlace::Many(values) => Some(values),
+        }
+    }
+
+    /// Returns whether there is a row.
+    pub(crate) fn is_some(&self) -> bool
+        ensures { result ≡ is_some self.now }
+    {
+        match &self.place {
+            RowPlace::None => false,
+            RowPlace::One(_) => true,
+            RowPlace::Many(_) => true,
         }
     }
 
@@ -74,6 +91,7 @@ impl ShownRow {
     /// # Errors
     /// `AllocError` when out of memory; then there is no row.
     pub(crate) fn set(&mut self, alloc: Global, values: &[Value]) -> Result<(), AllocError>
+        requires { length values.now ≤ MAX_COLUMNS }
         ensures ok { OnOk result (self.new ≡ Some (held values.now)) }
         ensures err { OnErr result (self.new ≡ None) }
     {
@@ -85,19 +103,17 @@ impl ShownRow {
         Ok(())
     }
 
-    /// Sets the row to these values. If it has memory, the two lists swap their room.
-    pub(crate) fn put(&mut self, alloc: Global, row: &mut Vec<Value>)
-        ensures { self.new ≡ Some (held row.old.items) }
+    /// Makes a shown row of these values. It takes no memory for a single value.
+    ///
+    /// # Errors
+    /// `AllocError` when out of memory.
+    pub(crate) fn of(alloc: Global, values: &[Value]) -> Result<ShownRow, AllocError>
+        requires { length values.now ≤ MAX_COLUMNS }
+        ensures { IfOk result (λ row. row ≡ Some (held values.now)) }
     {
-        if let RowPlace::Many(values) = &mut self.place {
-            mem::swap(values, row);
-            return;
-        }
-        if row.len() == 1 {
-            self.place = RowPlace::One(row[0]);
-            return;
-        }
-        self.place = RowPlace::Many(mem::replace(row, Vec::new(alloc)));
+        let mut row = ShownRow::none();
+        row.set(alloc, values)?;
+        Ok(row)
     }
 }
 

@@ -1,19 +1,19 @@
 //! Groups at the places of a list, some of them free.
 
 ghost use Rattle.std.specs.Prelude.{◌≡◌, ◌≢◌, ◌≤◌, ◌<◌, ◌+◌, ◌^◌, ℕ, [], length, fold};
-ghost use Rattle.std.specs.Prelude.{None, Some, IfOk, IsSome, IsTrue, OnOk};
+ghost use Rattle.std.specs.Prelude.{None, Some, IfOk, IsSome, IsTrue, OnErr, OnOk, false};
+ghost use Rattle.std.specs.List.{list_any};
 ghost use Rattle.std.specs.Option.{option_copied};
 ghost use Rattle.group.specs.Batches.{AllInRange, row_in};
-ghost use Rattle.group.specs.Cells.{cell_after, showing, CellRoom, ReadsInRange};
+ghost use Rattle.group.specs.Cells.{cell_after, keeps, showing, CellRoom, ReadsInRange};
 ghost use Rattle.group.specs.Places.{at_place, slot_of};
 ghost use Rattle.group.specs.Same.{held_eq};
-ghost use Rattle.group.specs.Slots.{cell_at, key_at, KeepsKeys, Swaps, SwapsIn, Writes};
+ghost use Rattle.group.specs.Slots.{cell_at, key_at, KeepsKeys, Writes};
 
 use crate::cells::Cell;
 use crate::key::GroupKey;
-use crate::shape::GroupBy;
+use crate::shown_row::ShownRow;
 use column::Batch;
-use op_queue::SignedRows;
 use std::alloc::{AllocError, Global};
 use std::marker::Model;
 use std::mem;
@@ -106,6 +106,9 @@ impl<const N: usize> ListPlace<N> {
     }
 
     /// Lets a row of the group here enter or leave.
+    ///
+    /// # Errors
+    /// `AllocError` when out of memory; then nothing has changed.
     fn take(
         &mut self,
         alloc: Global,
@@ -120,6 +123,7 @@ impl<const N: usize> ListPlace<N> {
         ensures cell { OnOk result (cell_at (slot_of self.new)
             ≡ cell_after items.now (cell_at (slot_of self.old)) (row_in batch.now row)) }
         ensures range { OnOk result (ReadsInRange items.now (row_in batch.now row)) }
+        ensures err { OnErr result (slot_of self.new ≡ slot_of self.old) }
     {
         with_slot!(self, slot => slot.cell.take(alloc, items, batch, row))
     }
@@ -137,6 +141,8 @@ impl<const N: usize> ListPlace<N> {
         ensures cell { OnOk result (cell_at (slot_of self.new)
             ≡ fold (cell_after items.now) (cell_at (slot_of self.old)) batch.now) }
         ensures range { OnOk result (AllInRange items.now batch.now) }
+        ensures err { OnErr result
+            (list_any keeps items.now ≡ false → slot_of self.new ≡ slot_of self.old) }
     {
         with_slot!(self, slot => slot.cell.take_batch(alloc, items, batch))
     }
@@ -151,21 +157,13 @@ impl<const N: usize> ListPlace<N> {
         with_slot!(self, slot => slot.cell.show(alloc, row))
     }
 
-    /// Takes a tick of the group here. Returns whether it has a row to show.
-    fn swap(
-        &mut self,
-        alloc: Global,
-        group: &GroupBy,
-        key: &GroupKey<N>,
-        spare: &mut Vec<Value>,
-        rows: &mut SignedRows,
-    ) -> Result<bool, AllocError>
+    /// Lets the group here show this row, or none. Takes no memory.
+    fn put_row(&mut self, row: ShownRow)
         requires { IsSome (slot_of self.old) }
         ensures key { key_at (slot_of self.new) ≡ key_at (slot_of self.old) }
-        ensures swapped { IfOk result (λ some. SwapsIn group.now key.now
-            (cell_at (slot_of self.old)) (cell_at (slot_of self.new)) rows.old rows.new some) }
+        ensures cell { cell_at (slot_of self.new) ≡ showing (cell_at (slot_of self.old)) row }
     {
-        with_slot!(self, slot => slot.cell.swap(alloc, group, key.values(), spare, rows))
+        with_slot!(self, slot => slot.cell.put_row(row))
     }
 }
 
@@ -282,6 +280,9 @@ impl<const N: usize> SlotList<N> {
     }
 
     /// Lets a row of the group at a place enter or leave.
+    ///
+    /// # Errors
+    /// `AllocError` when out of memory; then nothing has changed.
     pub(crate) fn take(
         &mut self,
         alloc: Global,
@@ -297,6 +298,7 @@ impl<const N: usize> SlotList<N> {
         ensures cell { OnOk result (Writes (at_place self.old) (at_place self.new) place
             (cell_after items.now (cell_at (at_place self.old place)) (row_in batch.now row))) }
         ensures range { OnOk result (ReadsInRange items.now (row_in batch.now row)) }
+        ensures err { OnErr result ((q : ℕ) → at_place self.new q ≡ at_place self.old q) }
     {
         self.places[place].take(alloc, items, batch, row)
     }
@@ -315,8 +317,11 @@ impl<const N: usize> SlotList<N> {
         ensures cell { OnOk result (Writes (at_place self.old) (at_place self.new) place
             (fold (cell_after items.now) (cell_at (at_place self.old place)) batch.now)) }
         ensures range { OnOk result (AllInRange items.now batch.now) }
+        ensures err { OnErr result (list_any keeps items.now ≡ false
+            → (q : ℕ) → at_place self.new q ≡ at_place self.old q) }
     {
-        self.places[place].take_batch(alloc, items, batch)
+        self.places[place].take_batch(alloc, items, batch)?;
+        Ok(())
     }
 
     /// Sets the row that the group at a place shows.
@@ -329,21 +334,13 @@ impl<const N: usize> SlotList<N> {
         self.places[place].show(alloc, row)
     }
 
-    /// Takes a tick of the group at a place. Returns whether it has a row to show.
-    pub(crate) fn swap(
-        &mut self,
-        alloc: Global,
-        group: &GroupBy,
-        key: &GroupKey<N>,
-        place: usize,
-        spare: &mut Vec<Value>,
-        rows: &mut SignedRows,
-    ) -> Result<bool, AllocError>
+    /// Lets the group at a place show this row, or none. Takes no memory.
+    pub(crate) fn put_row(&mut self, place: usize, row: ShownRow)
         requires { IsSome (at_place self.old place) }
         ensures keys { KeepsKeys (at_place self.old) (at_place self.new) }
-        ensures swapped { IfOk result (λ some. Swaps group.now key.now
-            (at_place self.old) (at_place self.new) place rows.old rows.new some) }
+        ensures cell { Writes (at_place self.old) (at_place self.new) place
+            (showing (cell_at (at_place self.old place)) row) }
     {
-        self.places[place].swap(alloc, group, key, spare, rows)
+        self.places[place].put_row(row)
     }
 }

@@ -7,26 +7,29 @@ ghost use Rattle.std.specs.Prelude.{
   IfOk,
   IsSome,
   IsTrue,
+  OnErr,
   OnOk,
-  MatchOption,
   option_to_list,
 };
 ghost use Rattle.std.specs.BTreeMap.{is_at, insert_entry};
 ghost use Rattle.std.specs.Map.{keys_of, lookup, remove_entry};
+ghost use Rattle.std.specs.List.{list_any};
 ghost use Rattle.std.specs.List.Sorted.{IsStrictlySortedBy};
 ghost use Rattle.std.specs.Option.{option_copied};
 ghost use Rattle.group.specs.Batches.{AllInRange, batch_in, row_in};
-ghost use Rattle.group.specs.Cells.{held_cmp, CellRoom, ReadsInRange};
+ghost use Rattle.group.specs.Cells.{held_cmp, keeps, CellRoom, ReadsInRange};
 ghost use Rattle.group.specs.Keys.{Short};
 ghost use Rattle.group.specs.Slots.{cell_at, key_at, IsPlaced};
 ghost use Rattle.group.specs.Quiet.{IsQuiet, IsQuietCell};
 ghost use Rattle.group.specs.Turns.{cell_of, has_key, taken_in, shown_in};
-ghost use Rattle.group.specs.Runs.{HasSwapped};
+ghost use Rattle.group.specs.Plans.{plan_of, put_in};
+ghost use Rattle.group.specs.Runs.{put_out};
 ghost use Rattle.group.specs.Places.{at_place};
 
 use crate::cells::Cell;
 use crate::key::GroupKey;
 use crate::shape::GroupBy;
+use crate::shown_row::ShownRow;
 use crate::slot_list::{GroupSlot, SlotList};
 use column::Batch;
 use op_queue::SignedRows;
@@ -89,6 +92,9 @@ impl<const N: usize> Slots<N> {
 
     /// Lets a row of a group enter or leave; the group need not be there. Returns where the group
     /// is and, if `asks` is set, whether it is quiet.
+    ///
+    /// # Errors
+    /// `AllocError` when out of memory; then nothing has changed.
     pub(crate) fn take(
         &mut self,
         alloc: Global,
@@ -107,6 +113,7 @@ impl<const N: usize> Slots<N> {
         ensures range { OnOk result (ReadsInRange items.now (row_in batch.now row)) }
         ensures quiet { IfOk result (λ taken.
             IsTrue taken.is_quiet → IsQuiet self.new.entries key.now) }
+        ensures err { OnErr result (self.new ≡ self.old) }
     {
         if let Some(place) = place_of(&self.places, key) {
             self.slots.take(alloc, items, place, batch, row)?;
@@ -123,6 +130,9 @@ impl<const N: usize> Slots<N> {
     }
 
     /// Takes in a batch of rows of a group, which need not be there. Returns where the group is.
+    ///
+    /// # Errors
+    /// `AllocError` when out of memory; then nothing has changed, if no item keeps its numbers.
     pub(crate) fn take_batch(
         &mut self,
         alloc: Global,
@@ -136,6 +146,7 @@ impl<const N: usize> Slots<N> {
         ensures cells { OnOk result
             (self.new.entries ≡ batch_in items.now key.now batch.now self.old.entries) }
         ensures range { OnOk result (AllInRange items.now batch.now) }
+        ensures err { OnErr result (list_any keeps items.now ≡ false → self.new ≡ self.old) }
     {
         if let Some(place) = place_of(&self.places, key) {
             self.slots.take_batch(alloc, items, place, batch)?;
@@ -169,37 +180,54 @@ impl<const N: usize> Slots<N> {
         Ok(())
     }
 
-    /// Takes a tick of the group with this key, which stays. Returns whether it has a row to show;
-    /// `None` if there is no such group. It takes no look-up if the group is at the guessed place.
-    pub(crate) fn swap(
-        &mut self,
+    /// Emits what a tick of the group with this key puts out, as `Cell::plan` does. The group need
+    /// not be there. It takes no look-up if the group is at the guessed place.
+    pub(crate) fn plan(
+        &self,
         alloc: Global,
         group: &GroupBy,
         key: &GroupKey<N>,
         guess: usize,
         spare: &mut Vec<Value>,
         rows: &mut SignedRows,
-    ) -> Result<Option<bool>, AllocError>
-        ensures { IfOk result (λ some. MatchOption some
-            ((has_key key.now self.old.entries ≡ false) × (self.new.entries ≡ self.old.entries)
-            × (rows.new ≡ rows.old))
-            (HasSwapped group.now key.now self.old.entries rows.old self.new.entries rows.new)) }
+    ) -> Result<Option<ShownRow>, AllocError>
+        ensures plan { IfOk result (λ plan. plan ≡ plan_of group.now key.now
+            (cell_of (length group.now.items) key.now self.now.entries)) }
+        ensures rows { OnOk result (rows.new ≡ put_out group.now key.now
+            (cell_of (length group.now.items) key.now self.now.entries) rows.old) }
     {
-        match found(&self.places, &self.slots, key, guess) {
-            Some(place) => {
-                let some = self.slots.swap(alloc, group, key, place, spare, rows)?;
-                Ok(Some(some))
-            }
-            None => Ok(None),
+        if let Some(place) = found(&self.places, &self.slots, key, guess) {
+            let cell = self.slots.cell(place);
+            return cell.plan(alloc, group, key.values(), spare, rows);
+        }
+        let cell = Cell::new(alloc, group.items().len());
+        cell.plan(alloc, group, key.values(), spare, rows)
+    }
+
+    /// Lets the group with this key show the row, if the group is there. Drops it if there is no
+    /// row. It takes no memory, and no look-up if it shows the row and is at the guessed place.
+    pub(crate) fn put_row(&mut self, key: &GroupKey<N>, guess: usize, row: ShownRow)
+        ensures { self.new.entries ≡ put_in key.now row self.old.entries }
+    {
+        if !row.is_some() {
+            self.remove(key);
+            return;
+        }
+        if let Some(place) = found(&self.places, &self.slots, key, guess) {
+            self.slots.put_row(place, row);
         }
     }
 
     /// Inserts a group that is not there. Returns where it is.
+    ///
+    /// # Errors
+    /// `AllocError` when out of memory; then nothing has changed.
     pub(crate) fn insert(&mut self, key: &GroupKey<N>, cell: Cell) -> Result<usize, AllocError>
         requires fits { length key.now.items ≤ N }
         requires new { has_key key.now self.old.entries ≡ false }
-        ensures { OnOk result
+        ensures ok { OnOk result
             (self.new.entries ≡ insert_entry held_cmp self.old.entries key.now cell) }
+        ensures err { OnErr result (self.new ≡ self.old) }
     {
         let place = self.slots.vacant()?;
         self.places.insert(key.copied(), place)?;

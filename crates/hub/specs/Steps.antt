@@ -215,7 +215,7 @@ pub record Drains (old : PlainLocked) (rows : ℕ) (result : Result ⊤ Fault)
     (new : PlainLocked) : Type 0 where
   pub legal : IsReplayed old
   pub runs : RunsByQuery (engine_at old) rows result (engine_at new)
-  pub others : LeavesOthers (engine_at old) result (engine_at new)
+  pub others : LeavesOthers (engine_at old) (engine_at new)
   pub machine : (engine_at new).machine ≡ (engine_at old).machine
   pub idle : OnOk result (first_of (engine_at new).slots ≡ None)
   pub all : OnOk result (HasAllWaiting (engine_at new))
@@ -227,7 +227,7 @@ pub record DrainsSome (old : PlainLocked) (rows turns : ℕ) (result : Result Bo
     (new : PlainLocked) : Type 0 where
   pub legal : IsReplayed old
   pub runs : RunsTurns (engine_at old) rows (as_drained result) (engine_at new)
-  pub others : LeavesOthers (engine_at old) (as_drained result) (engine_at new)
+  pub others : LeavesOthers (engine_at old) (engine_at new)
   pub machine : (engine_at new).machine ≡ (engine_at old).machine
   pub most : (engine_at new).next ≤ (engine_at old).next + turns
   pub some : turns ≢ 0 → HasReady (engine_at old)
@@ -247,7 +247,7 @@ pub record DrainsSomeByQuery (old : PlainLocked) (rows turns : ℕ) (result : Re
     (new : PlainLocked) : Type 0 where
   pub legal : IsReplayed old
   pub runs : RunsByQuery (engine_at old) rows (as_drained result) (engine_at new)
-  pub others : LeavesOthers (engine_at old) (as_drained result) (engine_at new)
+  pub others : LeavesOthers (engine_at old) (engine_at new)
   pub machine : (engine_at new).machine ≡ (engine_at old).machine
   pub most : (engine_at new).next ≤ (engine_at old).next + turns
   pub some : turns ≢ 0 → HasReady (engine_at old)

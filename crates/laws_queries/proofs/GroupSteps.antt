@@ -28,7 +28,7 @@ use Rattle.turn.specs.declared.kinds.Kind.{Kind}
 use Rattle.turn.specs.declared.kinds.Kind.TheVariants as kind
 use Rattle.turn.specs.declared.outcomes.Change.{Change}
 use Rattle.operators.specs.Operators.{PlainOperator, HasNamedColumns, IsFinished}
-use Rattle.operators.specs.States.{HasColumns, Takes, IsNext, near_of, shown_in, usable}
+use Rattle.operators.specs.States.{HasColumns, HasStood, IsNext, Takes, near_of, shown_in, usable}
 use Rattle.operators.specs.declared.states.State.{State}
 use Rattle.operators.specs.declared.states.State.TheVariants as state
 use Rattle.plan.specs.Nodes as plan
@@ -168,6 +168,7 @@ module _ (s : GroupState) (o o2 : PlainOperator) (log : Closed) (it : queue.Item
     named = subst (λ (what : Kind). HasNamedColumns what it) (sym is_kind) tt;
     takes = subst (λ (held : State). Takes held side it (change_at o.kind it (near_of held side it))) (sym is_state)
         (subst (λ (what : Kind). Takes (state.Groups s) side it (change_at what it (near_of (state.Groups s) side it))) (sym is_kind) (room it));
+    stood = subst (λ (held : State). HasStood held side it) (sym is_state) tt;
   }
     where
       room : (it : queue.Item) → group.RoomFor s it

@@ -10,6 +10,7 @@ use Rattle.column.specs.declared.batch.Side.TheVariants.{Left, Right}
 use Rattle.op_queue.specs.Entries.{Entry, RowAt, TickAt}
 use Rattle.op_queue.specs.Items.{entries_of}
 use Rattle.op_queue.specs.Logs.{Closed}
+use Rattle.op_queue.specs.Paths.{Leads}
 use Rattle.op_queue.specs.Signed.{weigh, Legal, Turns}
 use Rattle.op_queue.specs.declared.item.Item.{Item}
 use Rattle.op_queue.specs.declared.item.Item.TheVariants.{Rows, Tick}
@@ -23,12 +24,12 @@ use Rattle.turn.specs.Turns.{Outs, Put, Answered, change_at, outs_at}
 use Rattle.turn.specs.declared.kinds.Kind.{Kind}
 use Rattle.turn.specs.declared.kinds.Kind.TheVariants as kind
 use Rattle.operators.specs.Operators.{PlainOperator, HasNamedColumns, IsFinished, waiting}
-use Rattle.operators.specs.States.{HasColumns, Takes, IsNext, near_of, usable}
+use Rattle.operators.specs.States.{HasColumns, HasStood, IsNext, Takes, near_of, usable}
 use Rattle.operators.specs.declared.states.State.{State}
 use Rattle.operators.specs.declared.states.State.TheVariants as state
 use Rattle.plan.specs.Nodes as plan
 use Rattle.laws_dataflow.specs.Nets as nets
-use Rattle.laws_dataflow.specs.Nets.{World, Cell, at_window, at_unary, at_join, Input, Turn, batch}
+use Rattle.laws_dataflow.specs.Nets.{World, Cell, at_window, at_unary, at_join, Input, Turn, batch, past}
 use Rattle.laws_dataflow.specs.Operators.{joining}
 use Rattle.laws_dataflow.proofs.JoinTurns.{left_rows_made, right_rows_made, left_first_made, right_first_made, left_last_made, right_last_made}
 use Rattle.laws_dataflow.proofs.RootLemmas.{After, after}
@@ -495,6 +496,15 @@ item_room : (held : SideState) (it : Item) → length (entries_of it) ≤ 1024 �
 item_room held (Rows t xs) l h = omega (arith, l, h, length-map xs (RowAt t))
 item_room held (Tick t) l h = tt
 
+-- its rows that leave are among those that its side has taken
+leaves_left : {v : ℕ → List Row} {n k : ℕ} {c : List Row} (g : JoinState) (l m : List Row) (it : Item) (rest : List (Entry Row)) → joins.Stands g l m → Leads v l n (entries_of it ++ rest) c k → joins.MayLeave g Left it
+leaves_left g l m (Rows t xs) rest st h = record { left = l; right = m; stands = st; legal = Leads-front_legal t xs rest h }
+leaves_left g l m (Tick t) rest st h = tt
+
+leaves_right : {v : ℕ → List Row} {n k : ℕ} {c : List Row} (g : JoinState) (l m : List Row) (it : Item) (rest : List (Entry Row)) → joins.Stands g l m → Leads v m n (entries_of it ++ rest) c k → joins.MayLeave g Right it
+leaves_right g l m (Rows t xs) rest st h = record { left = l; right = m; stands = st; legal = Leads-front_legal t xs rest h }
+leaves_right g l m (Tick t) rest st h = tt
+
 pub join_may : (i j : ℕ) (keys : List plan.Key) → MayLaw (plan.Join i j keys)
 join_may i j keys w ws ns k o log (at_window h u b q n) d e side it s f = absurd s.runs
 join_may i j keys w ws ns k o log (at_unary q t b n) d e side it s f = absurd s.runs
@@ -509,6 +519,7 @@ join_may i j keys w ws ns k o log (at_join q r l m b n x y) d e Left it s f =
       named = subst (λ (what : Kind). HasNamedColumns what it) (sym s.runs.kind) tt;
       takes = subst (λ (held : State). Takes held Left it (change_at o.kind it (near_of held Left it))) (sym s.runs.state)
           (item_room g.left it f.few (omega (arith, side_few Left g.keys g.left l s.runs.stands.left, stays_now q s.few.0, s.room.always i)));
+      stood = subst (λ (held : State). HasStood held Left it) (sym s.runs.state) (leaves_left g l m it f.rest s.runs.stands (subst (λ (es : List (Entry Row)). Leads d.values l (past x n) es d.bag d.opens) (s.runs.left_queue ∙ f.is) s.good.left_edge));
     }
 join_may i j keys w ws ns k o log (at_join q r l m b n x y) d e Right it s f =
     let g : JoinState = s.runs.held in
@@ -521,4 +532,5 @@ join_may i j keys w ws ns k o log (at_join q r l m b n x y) d e Right it s f =
       named = subst (λ (what : Kind). HasNamedColumns what it) (sym s.runs.kind) tt;
       takes = subst (λ (held : State). Takes held Right it (change_at o.kind it (near_of held Right it))) (sym s.runs.state)
           (item_room g.right it f.few (omega (arith, side_few Right g.keys g.right m s.runs.stands.right, stays_now r s.few.1, s.room.always j)));
+      stood = subst (λ (held : State). HasStood held Right it) (sym s.runs.state) (leaves_right g l m it f.rest s.runs.stands (subst (λ (es : List (Entry Row)). Leads e.values m (past y n) es e.bag e.opens) (s.runs.right_queue ∙ f.is) s.good.right_edge));
     }

@@ -17,7 +17,7 @@ use Rattle.to_stream.proofs.StepLemmas.{has_room, step_law}
 use Rattle.turn.specs.Turns.{Outs, Put, Answered, change_at, outs_at}
 use Rattle.turn.specs.declared.outcomes.Change.{Change}
 use Rattle.operators.specs.Operators.{PlainOperator, HasNamedColumns, IsFinished, waiting}
-use Rattle.operators.specs.States.{HasColumns, IsNext, Takes, near_of, usable}
+use Rattle.operators.specs.States.{HasColumns, HasStood, IsNext, Takes, near_of, usable}
 use Rattle.laws_dataflow.specs.Nets.{Input, batch}
 use Rattle.laws_dataflow.specs.Queries.{GoodRoot, before}
 use Rattle.laws_dataflow.proofs.FrontLemmas.{front_instant}
@@ -57,6 +57,7 @@ root_may first start earlier d most o log s q given side i r f = record {
   columns = subst (λ z. HasColumns z side i) (sym r.runs.state) tt;
   named = subst (λ k. HasNamedColumns k i) (sym r.runs.kind) tt;
   takes = subst (λ z. Takes z side i (change_at o.kind i (near_of o.state side i))) (sym r.runs.state) (has_item_room first start earlier d most o log s q given i r f.few);
+  stood = subst (λ z. HasStood z side i) (sym r.runs.state) tt;
 }
 
 -- THE NEXT STATE

@@ -20,7 +20,7 @@ use Rattle.row_nodes.specs.Project.{AreColumns, columns_in, projected, projected
 use Rattle.row_nodes.proofs.RowLemmas.{filter_by}
 use Rattle.turn.specs.Turns.{Put, change_at, outs_at}
 use Rattle.operators.specs.Operators.{HasNamedColumns}
-use Rattle.operators.specs.States.{HasColumns, IsNext, Takes, is_left, near_of, usable}
+use Rattle.operators.specs.States.{HasColumns, HasStood, IsNext, Takes, is_left, near_of, usable}
 use Rattle.operators.specs.declared.states.State.TheVariants as state
 use Rattle.plan.specs.Nodes as plan
 use Rattle.plan.specs.Nodes.{holds_all, shaped_rows}
@@ -67,6 +67,7 @@ select_may x cs w ws ns k o log (at_unary q t b n) d z side i s f =
       named = subst (λ a. HasNamedColumns a i) (sym r.kind) (select_fits r.steps (width_at ws x) i f.rest f.some
           (subst (AreEntries (width_at ws x)) queue wide.side.queue) fit.0);
       takes = subst (λ a. Takes a side i (change_at o.kind i (near_of o.state side i))) (sym r.state) tt;
+      stood = subst (λ a. HasStood a side i) (sym r.state) tt;
     }
 
 module _ (w : World) (cs : List Condition) (steps : List Step) (tell : Tell steps cs) (x : ℕ) (v : ℕ → List Row) (below : List Row) (m : ℕ) where
@@ -155,6 +156,7 @@ project_may x columns w ws ns k o log (at_unary q t b n) d z side i s f =
       named = subst (λ a. HasNamedColumns a i) (sym r.kind) (project_fits r.places (width_at ws x) i f.rest f.some
           (subst (AreEntries (width_at ws x)) queue wide.side.queue) fit.0);
       takes = subst (λ a. Takes a side i (change_at o.kind i (near_of o.state side i))) (sym r.state) tt;
+      stood = subst (λ a. HasStood a side i) (sym r.state) tt;
     }
 
 -- as many rows are listed

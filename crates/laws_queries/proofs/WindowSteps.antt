@@ -20,7 +20,7 @@ use Rattle.turn.specs.Turns.{Put, change_at, outs_at}
 use Rattle.turn.specs.declared.kinds.Kind.{Kind}
 use Rattle.turn.specs.declared.kinds.Kind.TheVariants as kind
 use Rattle.operators.specs.Operators.{PlainOperator, Belongs, HasNamedColumns, IsFinished}
-use Rattle.operators.specs.States.{HasColumns, IsLatestAfter, IsNext, LatestAfter, RangeTakes, Takes, TakesSlide, is_left, near_of, range_after, usable}
+use Rattle.operators.specs.States.{HasColumns, HasStood, IsLatestAfter, IsNext, LatestAfter, RangeTakes, Takes, TakesSlide, is_left, near_of, range_after, usable}
 use Rattle.operators.specs.declared.states.State.{State}
 use Rattle.operators.specs.declared.states.State.TheVariants as state
 use Rattle.plan.specs.Nodes as plan
@@ -99,6 +99,7 @@ module _ (w : World) (ws : List ℕ) (ns : List plan.Node) (k x : ℕ) (o : Plai
         columns = subst (λ c. HasColumns c side i) (sym is) tt;
         named = subst (λ c. HasNamedColumns c i) (sym a) tt;
         takes = subst₂ (λ c j. Takes j side i (change_at c i (near_of j side i))) (sym a) (sym is) takes;
+        stood = subst (λ c. HasStood c side i) (sym is) tt;
       }
 
   slide_may : (r : SlideState) → o.state ≡ state.Slide r → WindowStands w.first (w.windows x) n (state.Slide r) h → MayTake o side i
@@ -117,6 +118,7 @@ module _ (w : World) (ws : List ℕ) (ns : List plan.Node) (k x : ℕ) (o : Plai
         columns = subst (λ c. HasColumns c side i) (sym is) tt;
         named = subst (λ c. HasNamedColumns c i) (sym a) tt;
         takes = subst₂ (λ c j. Takes j side i (change_at c i (near_of j side i))) (sym a) (sym is) takes;
+        stood = subst (λ c. HasStood c side i) (sym is) tt;
       }
 
   latest_may : (r : LatestState) → o.state ≡ state.Latest r → WindowStands w.first (w.windows x) n (state.Latest r) h → MayTake o side i
@@ -131,6 +133,7 @@ module _ (w : World) (ws : List ℕ) (ns : List plan.Node) (k x : ℕ) (o : Plai
         columns = subst (λ c. HasColumns c side i) (sym is) item;
         named = subst (λ c. HasNamedColumns c i) (sym a) tt;
         takes = subst₂ (λ c j. Takes j side i (change_at c i (near_of j side i))) (sym a) (sym is) item;
+        stood = subst (λ c. HasStood c side i) (sym is) tt;
       }
 
   may_of : (r : State) → o.state ≡ r → WindowStands w.first (w.windows x) n r h → MayTake o side i

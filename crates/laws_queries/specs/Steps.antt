@@ -8,7 +8,7 @@ use Rattle.op_queue.specs.Logs.{Closed}
 use Rattle.op_queue.specs.declared.item.Item.{Item}
 use Rattle.turn.specs.Turns.{Outs, Put, change_at, outs_at}
 use Rattle.operators.specs.Operators.{PlainOperator, HasNamedColumns, IsFinished, waiting}
-use Rattle.operators.specs.States.{HasColumns, Takes, near_of, usable}
+use Rattle.operators.specs.States.{HasColumns, HasStood, Takes, near_of, usable}
 use Rattle.plan.specs.Nodes as plan
 use Rattle.laws_dataflow.specs.Nets.{World, Cell, Input, GoodCell, Turn, cell_shown}
 use Rattle.laws_dataflow.specs.Operators.{node_of}
@@ -33,6 +33,7 @@ pub record MayTake (o : PlainOperator) (side : Side) (i : Item) : Type 0 where
   pub columns : HasColumns o.state side i
   pub named : HasNamedColumns o.kind i
   pub takes : Takes o.state side i (change_at o.kind i (near_of o.state side i))
+  pub stood : HasStood o.state side i
 
 -- AFTER IT the operator k stands for another cell, which a turn of the net makes
 pub record StepMade (w : World) (ws : List ℕ) (ns : List plan.Node) (k : ℕ) (node : plan.Node)

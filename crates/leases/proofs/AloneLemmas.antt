@@ -1,8 +1,7 @@
 -- A query that is drained by itself: its engine stays good, and goes through turns of operators that might be leased.
-use Rattle.std.proofs.Common.{◌≡◌, ◌<◌, ◌≤◌, ◌+◌, ◌-◌, ◌++◌, ◌⊎◌, ⊎_elim, inl, inr, ℕ, suc, false, max, Option, Some, IfSome, IfErr, Result, Ok, Err, List, [], ◌∷◌, length, set, refl, sym, ap, ◌∙◌, subst, arith}
-use Rattle.std.specs.List.{AllByRecursion, list_any}
+use Rattle.std.proofs.Common.{◌≡◌, ◌<◌, ◌≤◌, ◌+◌, ◌++◌, ◌⊎◌, ◌||◌, ⊎_elim, inl, inr, ℕ, suc, Bool, true, false, Option, Some, IfSome, IfErr, Result, Ok, Err, List, [], ◌∷◌, length, set, refl, sym, ap, ap₂, ◌∙◌, subst, arith}
+use Rattle.std.specs.List.{list_any}
 use Rattle.std.proofs.lemmas.Bool.{cases_lt}
-use Rattle.std.specs.Option.{option_map_or}
 use Rattle.std.specs.Prelude.{⊤, min, slice_get}
 use Rattle.std.proofs.lemmas.List.{set-get_or, set-set}
 use Rattle.std.proofs.lemmas.Option.{slice_get_within}
@@ -19,19 +18,14 @@ use Rattle.query_runtime.specs.Passing.{AreQuiet, HavePassed}
 use Rattle.query_runtime.specs.Runs.{CanRun, HasRun}
 use Rattle.query_runtime.specs.Turns.{HasOperator, log_of}
 use Rattle.laws_queries.specs.Machines.{widths_of}
-use Rattle.laws_dataflow.proofs.AnswerLemmas.{shaped}
 use Rattle.envelope.specs.Fraction.{Fraction}
-use Rattle.reference.specs.Opening.{all_instants}
 use Rattle.run_queue.specs.Slots.{slot, with_next}
 use Rattle.run_queue.specs.declared.slots.Slot.{Slot}
 use Rattle.laws_engine.specs.Asks.{IsOperator}
 use Rattle.laws_engine.specs.Bounds.{HaveFewClosed}
-use Rattle.laws_engine.proofs.InstantLemmas.{until_few}
-use Rattle.laws_engine.proofs.MarkLemmas as mark
-use Rattle.leases.specs.Forgets.{IsMarkable}
-use Rattle.laws_engine.specs.Calls.{IsOf, answered, broken, finished, leased, of_others, others}
-use Rattle.laws_engine.specs.Engines.{AreRemains, Broken, Dropped, Goes, GoodEngine, HasSlots, IsIn, Lease, PlainEngine, PlainRemains, Running, is_of, next_of, query_at, remains_at, slot_of, upto_at, upto_in}
-use Rattle.laws_engine.specs.Histories.{Breaks, ComesBack, Finishes, IsCallStep}
+use Rattle.laws_engine.specs.Calls.{IsOf, answered, finished, leased, others}
+use Rattle.laws_engine.specs.Engines.{AreRemains, Dropped, Goes, GoodEngine, HasSlots, IsIn, Lease, PlainEngine, PlainRemains, Running, is_of, query_at, remains_at, slot_of}
+use Rattle.laws_engine.specs.Histories.{ComesBack, Finishes, IsCallStep}
 use Rattle.laws_engine.specs.Orders.{IsReady}
 use Rattle.laws_engine.specs.Passing.{HasPassed}
 use Rattle.laws_engine.proofs.AskLemmas.{may_ask}
@@ -41,13 +35,13 @@ use Rattle.laws_engine.proofs.LeaseLemmas.{ready_good}
 use Rattle.laws_engine.proofs.PassingLemmas.{pass_good}
 use Rattle.laws_engine.proofs.TableLemmas.{same_slot_in}
 use Rattle.laws_engine.proofs.TakeLemmas.{equal_slots}
-use Rattle.leases.specs.Alone.{HasFailedOwn, HasPassedOwn, HasStoppedOwn, HasTakenOwn, HaveRunOwn, IsOwnStep, IsReadyIn, MayPassOwn, MayRunAlone, OneOwnStep, OwnStep, PassesTo, Takes}
+use Rattle.leases.specs.Alone.{HasPassedOwn, HasStoppedOwn, HasTakenOwn, HaveRunOwn, IsOwnStep, IsReadyIn, MayPassOwn, MayRunAlone, OneOwnStep, OwnStep, PassesTo, Takes, TakesLess, is_less_own, one_was_less_own}
 use Rattle.leases.specs.Runs.{HasStoppedOn}
 use Rattle.operators.specs.declared.runs.Refused.{Refused}
 use Rattle.operators.specs.declared.runs.Refused.TheVariants.{Before, Within}
 use Rattle.leases.specs.Applied.{HasTaken}
-use Rattle.leases.specs.ByQuery.{AnyStep, FailedAny, GoesOutOfAny, HaveRunAny, IsAnyStep, PassedAny, RanAny, has_failed}
-use Rattle.leases.proofs.DrainLemmas.{all_left, last_goes}
+use Rattle.leases.specs.ByQuery.{AnyStep, GoesOutOfAny, HaveRunAny, IsAnyStep, LessAny, PassedAny, RanAny, is_less, one_was_less}
+use Rattle.leases.proofs.DrainLemmas.{all_left}
 use Rattle.leases.proofs.FinishLemmas.{comes_back_below, comes_back_root}
 use Rattle.leases.proofs.PassedLemmas.{query_passes}
 use Rattle.leases.proofs.ToldAllLemmas.{all_slots, all_told, gone_on}
@@ -188,17 +182,28 @@ module _ (e : PlainEngine) (n : ℕ) (q : Registered) (p : PlainQuery) (good : G
 -- A STEP of the query is one of its engine
 pub one_own : (e : PlainEngine) (n : ℕ) (q : Registered) (p : PlainQuery) (good : GoodEngine e) (returned : e.leases ≡ []) (registered : query_at e n ≡ Some q) (running : remains_at e n ≡ Running p)
     (rows : ℕ) (s : OwnStep) (p2 : PlainQuery) → IsOwnStep e.machine.streams rows p s p2
-    → (s2 : AnyStep) × ((e2 : PlainEngine) × (IsAnyStep rows e s2 e2 × (has_failed s2 ≡ false) × After e n 1 (Running p2) e2))
+    → (s2 : AnyStep) × ((e2 : PlainEngine) × (IsAnyStep rows e s2 e2 × (is_less s2 ≡ is_less_own s) × After e n 1 (Running p2) e2))
 one_own e n q p good returned registered running rows (Takes k side) p2 h =
     (RanAny (turn e n q p good returned registered running rows k side p2 h), (_, (takes_step e n q p good returned registered running rows k side p2 h, refl, takes_after e n q p good returned registered running rows k side p2 h)))
 one_own e n q p good returned registered running rows (PassesTo b) p2 h =
     (PassedAny n b, (passed e n q p good returned registered running b p2 h, (passes_step e n q p good returned registered running b p2 h, refl, passes_after e n q p good returned registered running b p2 h)))
+one_own e n q p good returned registered running rows (TakesLess count k side) p2 h = (
+  LessAny count (turn e n q p good returned registered running count k side p2 h.2),
+  (
+    _,
+    (
+      (h.0, h.1, takes_step e n q p good returned registered running count k side p2 h.2),
+      refl,
+      takes_after e n q p good returned registered running count k side p2 h.2,
+    ),
+  ),
+)
 
 -- and so are steps one after the other
-pub record HasRunOn (rows : ℕ) (e : PlainEngine) (n count : ℕ) (remains : PlainRemains) (e2 : PlainEngine) : Type 0 where
+pub record HasRunOn (rows : ℕ) (e : PlainEngine) (n count : ℕ) (short : Bool) (remains : PlainRemains) (e2 : PlainEngine) : Type 0 where
   pub steps : List AnyStep
   pub run : HaveRunAny rows e steps e2
-  pub done : AllByRecursion (λ s. has_failed s ≡ false) steps
+  pub less : one_was_less steps ≡ short
   pub after : After e n count remains e2
 
 pub after_on : (e e2 e3 : PlainEngine) (n a b : ℕ) (r r2 : PlainRemains) → After e n a r e2 → After e2 n b r2 e3 → After e n (a + b) r2 e3
@@ -211,7 +216,7 @@ after_on e e2 e3 n a b r r2 one two = record {
 }
 
 pub all_own : (rows : ℕ) (steps : List OwnStep) (e : PlainEngine) (n : ℕ) (q : Registered) (p p2 : PlainQuery) (good : GoodEngine e) (returned : e.leases ≡ []) (registered : query_at e n ≡ Some q) (running : remains_at e n ≡ Running p)
-    → HaveRunOwn e.machine.streams rows p steps p2 → (e2 : PlainEngine) × HasRunOn rows e n (length steps) (Running p2) e2
+    → HaveRunOwn e.machine.streams rows p steps p2 → (e2 : PlainEngine) × HasRunOn rows e n (length steps) (one_was_less_own steps) (Running p2) e2
 all_own rows [] e n q p p2 good returned registered running h =
     let same : set e.queries n (Running p2) ≡ e.queries = ap (set e.queries n) (ap Running h ∙ sym running) ∙ set-get_or e.queries n Dropped in
     let none : e.next + 0 ≡ e.next = omega arith in (
@@ -219,7 +224,7 @@ all_own rows [] e n q p p2 good returned registered running h =
       record {
         steps = [];
         run = refl;
-        done = tt;
+        less = refl;
         after = record {
           good = good;
           is = sym (ap (λ qs. record e { queries = qs; next = e.next + 0 }) same ∙ ap (λ k. record e { next = k }) none);
@@ -240,7 +245,7 @@ all_own rows (s ∷ steps) e n q p p2 good returned registered running h =
       record {
         steps = one.0 ∷ later.1.steps;
         run = (e1, (one.1.1.0, later.1.run));
-        done = (one.1.1.1, later.1.done);
+        less = ap₂ (λ a b. a || b) one.1.1.1 later.1.less;
         after = subst (λ k. After e n k (Running p2) later.0) (let one : 1 + length steps ≡ suc (length steps) = omega arith in one) (after_on e e1 later.0 n 1 (length steps) (Running h.0) (Running p2) after1 later.1.after);
       },
     )
@@ -249,6 +254,21 @@ all_own rows (s ∷ steps) e n q p p2 good returned registered running h =
 pub one_more_own : (streams : List Stream) (rows : ℕ) (p p2 p3 : PlainQuery) (steps : List OwnStep) (s : OwnStep) → HaveRunOwn streams rows p steps p2 → IsOwnStep streams rows p2 s p3 → HaveRunOwn streams rows p (steps ++ s ∷ []) p3
 one_more_own streams rows p p2 p3 [] s ran done = (p3, (subst (λ z. IsOwnStep streams rows z s p3) ran done, refl))
 one_more_own streams rows p p2 p3 (r ∷ steps) s ran done = (ran.0, (ran.1.0, one_more_own streams rows ran.0 p2 p3 steps s ran.1.1 done))
+
+-- and only the last of them ran out of memory, if any
+or_none : (a : Bool) → (a || false) ≡ a
+or_none true = refl
+or_none false = refl
+
+pub or_neither : (a b : Bool) → (a || b) ≡ false → (a ≡ false) × (b ≡ false)
+or_neither true b h = absurd (let bad : true ≡ false = h in cc)
+or_neither false b h = (refl, h)
+
+pub last_less : (steps : List OwnStep) (s : OwnStep) (less : Bool) → one_was_less_own steps ≡ false → is_less_own s ≡ less → one_was_less_own (steps ++ s ∷ []) ≡ less
+last_less [] s less none is = or_none (is_less_own s) ∙ is
+last_less (r ∷ steps) s less none is =
+    let neither = or_neither (is_less_own r) (one_was_less_own steps) none in
+    ap (λ b. b || one_was_less_own (steps ++ s ∷ [])) neither.0 ∙ last_less steps s less neither.1 is
 
 -- A QUERY THAT MAY RUN BY ITSELF
 module _ (streams : List Stream) (q : Registered) (p : PlainQuery) (h : MayRunAlone streams q p) where
@@ -266,15 +286,6 @@ module _ (streams : List Stream) (q : Registered) (p : PlainQuery) (h : MayRunAl
       subst (λ z. CanRun z p s.operator s.side rows) h.over
       ((may_ask e h.good).in_place h.number s.operator q p s.side s.instant rows (is_operator e h.number q p h.good h.returned h.registered h.running s.operator is.within)
       (subst (λ z. ready (operator_at p.operators s.operator) (log_of z p s.operator) ≡ Some (s.side, s.instant)) (sym h.over) is.ready) some)
-
-  pub alone_mark : IsMarkable q (Running p)
-  alone_mark =
-      let g : Goes e.machine q p = mark.goes e h.good h.number q p h.registered h.running in
-      let size : length p.operators ≡ length q.nodes = g.runs.runs.many in
-      let stands = g.runs.runs.stands in
-      let two : 2 ≤ length q.nodes = (shaped (widths_of e.machine.streams q) e.machine q stands.plan stands.wide).two in
-      let low : next_of q p ≤ max q.first all_instants = omega (arith, mark.next_reached e h.good h.number q p h.registered h.running, until_few e.machine.streams q.places h.closed.streams) in
-      (omega (arith, size, two), (ap (λ (k : ℕ). k - 1) (sym size), low))
 
   -- and after some steps it may still
   pub alone_on : (rows : ℕ) (steps : List OwnStep) (p2 : PlainQuery) → HaveRunOwn streams rows p steps p2 → MayRunAlone streams q p2
@@ -304,16 +315,16 @@ alone_same streams q p p2 h h2 k lt =
 pub may_be_quiet : (streams : List Stream) (p : PlainQuery) (b : ℕ) → MayPassOwn streams p b → AreQuiet b p
 may_be_quiet streams p b h k lt = (h.start, (h.each.each k lt).quiet)
 
-pub passes_own : (streams : List Stream) (rows : ℕ) (p p2 : PlainQuery) (b : ℕ) → MayPassOwn streams p b → HavePassed b p p2 → OneOwnStep streams rows p p2
-passes_own streams rows p p2 b may h = (PassesTo b, record { may = may; passed = h })
+pub passes_own : (streams : List Stream) (rows : ℕ) (p p2 : PlainQuery) (b : ℕ) → MayPassOwn streams p b → HavePassed b p p2 → OneOwnStep false streams rows p p2
+passes_own streams rows p p2 b may h = (PassesTo b, (record { may = may; passed = h }, refl))
 
 -- A TURN RAN, or was refused memory
-pub takes_own : (streams : List Stream) (rows : ℕ) (p p2 : PlainQuery) (s : Slot) → HasOperator streams p s.operator → HasRun streams p s.operator s.side rows p2 → OneOwnStep streams rows p p2
-takes_own streams rows p p2 s here h = (Takes s.operator s.side, record { here = here; ran = h })
+pub takes_own : (streams : List Stream) (rows : ℕ) (p p2 : PlainQuery) (s : Slot) → HasOperator streams p s.operator → HasRun streams p s.operator s.side rows p2 → OneOwnStep false streams rows p p2
+takes_own streams rows p p2 s here h = (Takes s.operator s.side, (record { here = here; ran = h }, refl))
 
 stopped_own : (streams : List Stream) (rows : ℕ) (p p2 : PlainQuery) (s : Slot) (f : Refused) → HasOperator streams p s.operator → HasStoppedOn f streams p s rows p2 → HasStoppedOwn f streams rows p p2
 stopped_own streams rows p p2 s Before here h = h
-stopped_own streams rows p p2 s Within here h = record { failed = record { operator = s.operator; side = s.side; here = here; held = h.held }; answers = h.answers }
+stopped_own streams rows p p2 s Within here h = (TakesLess h.count s.operator s.side, ((h.some, h.fewer, record { here = here; ran = h.run }), refl))
 
 pub err_own : (streams : List Stream) (rows : ℕ) (p p2 : PlainQuery) (s : Slot) (r : Result ⊤ Refused) → HasOperator streams p s.operator → IfErr r (λ f. HasStoppedOn f streams p s rows p2) → IfErr r (λ f. HasStoppedOwn f streams rows p p2)
 err_own streams rows p p2 s (Ok u) here h = tt
@@ -329,40 +340,3 @@ again_slot streams p s next lt is = record { within = lt; ready = is }
 pub either_slot : (streams : List Stream) (p : PlainQuery) (s r : Slot) (o : Option Slot) → (r ≡ s) ⊎ (o ≡ Some r) → IsReadyIn streams p s → IfSome o (IsReadyIn streams p) → IsReadyIn streams p r
 either_slot streams p s r o (inl same) is all = subst (IsReadyIn streams p) (sym same) is
 either_slot streams p s r o (inr some) is all = subst (λ z. IfSome z (IsReadyIn streams p)) some all
-
--- A TURN OF IT FAILED, and broke it
-module _ (e : PlainEngine) (n : ℕ) (q : Registered) (p : PlainQuery) (good : GoodEngine e) (returned : e.leases ≡ []) (registered : query_at e n ≡ Some q) (running : remains_at e n ≡ Running p)
-    (rows : ℕ) (h : HasFailedOwn e.machine.streams rows p) where
-  abbrev pub failing : Lease
-  failing = l e n q p good returned registered running rows h.operator h.side h.held.0 h.here.operator h.held.1.first h.held.1.cut
-
-  abbrev pub failing_out : PlainEngine
-  failing_out = leased e failing q p
-
-  failing_good : GoodEngine failing_out
-  failing_good = out_good e n q p good returned registered running rows h.operator h.side h.held.0 h.here.operator h.held.1.first h.held.1.cut
-
-  abbrev pub failed : PlainEngine
-  failed = broken failing_out n p
-
-  breaks : IsCallStep failing_out (Breaks failing) failed
-  breaks = (
-    is_out e n q p good returned registered running rows h.operator h.side h.held.0 h.here.operator h.held.1.first h.held.1.cut,
-    (q, (p, (of_out e n q p good returned registered running rows h.operator h.side h.held.0 h.here.operator h.held.1.first h.held.1.cut, refl))),
-  )
-
-  pub fails_step : IsAnyStep rows e (FailedAny failing) failed
-  fails_step = (failing_out, (goes_out e n q p good returned registered running rows h.operator h.side h.held.0 h.here.operator h.held.1.first h.held.1.cut, breaks))
-
-  turns_end : of_others n (e.leases ++ failing ∷ []) ≡ e.leases
-  turns_end = last_goes e.leases failing ∙ ap (of_others n) returned ∙ sym returned
-
-  reaches : upto_at failing_out n ≡ next_of q p
-  reaches = ap (λ o. option_map_or (λ r. upto_in r (remains_at e n)) o 0) registered ∙ ap (upto_in q) running
-
-  pub fails_after : After e n 1 (Broken p.answers (next_of q p)) failed
-  fails_after = record {
-    good = step_good failing_out failed (Breaks failing) failing_good breaks;
-    is = ap (λ ls. record failed { leases = ls }) turns_end
-        ∙ ap (λ (u : ℕ). record e { queries = set e.queries n (Broken p.answers u); next = e.next + 1; slots = failed.slots }) reaches;
-  }

@@ -1,5 +1,5 @@
 -- A drain that takes query by query goes through turns of operators that might be leased, whatever their slopes.
-use Rattle.std.proofs.Common.{◌≡◌, ◌≢◌, ◌<◌, ◌≤◌, ◌+◌, ◌++◌, ◌⊎◌, ⊎_elim, inl, inr, ℕ, true, false, Some, None, Result, Ok, Err, IfErr, OnOk, List, [], ◌∷◌, length, map, refl, sym, ap, ◌∙◌, subst, arith}
+use Rattle.std.proofs.Common.{◌≡◌, ◌≢◌, ◌<◌, ◌≤◌, ◌+◌, ◌++◌, ◌⊎◌, ⊎_elim, inl, inr, ℕ, not, true, false, Some, None, Result, Ok, Err, IfErr, OnOk, List, [], ◌∷◌, length, map, refl, sym, ap, ◌∙◌, subst, arith}
 use Rattle.std.specs.Prelude.{⊤, Bool, ◌||◌, is_some}
 use Rattle.std.specs.List.{AllByRecursion}
 use Rattle.values.specs.Row.{Row}
@@ -9,21 +9,21 @@ use Rattle.reference.specs.declared.fault.Fault.TheVariants as fault
 use Rattle.reference.specs.declared.fault.Fault.TheVariants.{Query, BadName, NameTaken, BadColumns, TooMany, UnknownStream, UnknownQuery, BadWidth, ValueRange, InstantRange, Late, Backward, Leap, StreamFull, BadLimit, UnknownLease, Stranger, TooManyLeases, HistoryFull, OutOfMemory, Foreign}
 use Rattle.run_queue.specs.Slots.{first_of}
 use Rattle.turn.specs.declared.turns.Turn.{Turn}
-use Rattle.laws_engine.specs.Calls.{of_others}
 use Rattle.laws_engine.specs.Engines.{Broken, Dropped, GoodEngine, Lease, PlainEngine, PlainRemains, Running, remains_at, world_of}
-use Rattle.laws_engine.specs.Histories.{Breaks, Finishes}
+use Rattle.laws_engine.specs.Histories.{Finishes}
 use Rattle.laws_engine.specs.Orders.{SameKind, SameKinds}
 use Rattle.laws_engine.proofs.HistoryLemmas.{step_good}
 use Rattle.laws_engine.proofs.LeaseLemmas.{leasable_ready, ready_good}
 use Rattle.laws_engine.proofs.OrderLemmas.{finish_kinds, kind_on, kind_same, pass_kinds}
 use Rattle.laws_engine.proofs.PassingLemmas.{pass_good}
-use Rattle.leases.specs.ByQuery.{AnyStep, FailedAny, GoesOutOfAny, HaveRunAny, IsAnyStep, PassedAny, HasRunOut, HasRunOutBelow, RanAny, RunsByQuery, SomeHaveFailed, SomeWereDone, has_failed, one_has_failed}
-use Rattle.leases.specs.Drains.{HasBrokenOne, OneHasFailed, RanOutBelow, RanOutOfMemory, HaveRun, IsDone, LeavesOthers, Passed, Ran, RunsTurns, Step, as_drained}
+use Rattle.leases.specs.ByQuery.{AnyStep, GoesAndComes, GoesOutOfAny, HasRunOut, HasRunOutBelow, HaveComeHome, HaveRunAny, IsAnyStep, LessAny, PassedAny, RanAny, RunsByQuery, SomeWereDone, SomeWereLess, is_less, one_was_less}
+use Rattle.leases.specs.Drains.{HaveRun, IsDone, LeavesOthers, OneHasRunLess, Passed, Ran, RanOutBelow, RanOutOfMemory, RunsTurns, Step, as_drained}
 use Rattle.leases.specs.Sound.{is_gone}
 use Rattle.leases.specs.Turns.{HasReady, IsFull, IsTurnOf, lease_fault}
 use Rattle.leases.specs.Views.{lease_of}
 use Rattle.leases.specs.Whole.{IsWholeEngine}
 use Rattle.leases.specs.declared.limits.TheConstants.{LEASE_NUMBERS}
+use Rattle.leases.proofs.AloneLemmas.{or_neither}
 use Rattle.leases.proofs.DrainLemmas.{comes_machine, comes_next, limit_is}
 use Rattle.leases.proofs.NumberLemmas.{HasGivenMore}
 use Rattle.leases.proofs.WorldLemmas.{all_reached, all_wait, drain_done, drain_refused, stops_early}
@@ -33,7 +33,7 @@ any_on : (rows : ℕ) (e1 e2 e3 : PlainEngine) (steps later : List AnyStep) → 
 any_on rows e1 e2 e3 [] later ran next = subst (λ e. HaveRunAny rows e later e3) ran next
 any_on rows e1 e2 e3 (s ∷ steps) later ran next = (ran.0, (ran.1.0, any_on rows ran.0 e2 e3 steps later ran.1.1 next))
 
-both_done : (steps later : List AnyStep) → AllByRecursion (λ s. has_failed s ≡ false) steps → AllByRecursion (λ s. has_failed s ≡ false) later → AllByRecursion (λ s. has_failed s ≡ false) (steps ++ later)
+both_done : (steps later : List AnyStep) → AllByRecursion (λ s. is_less s ≡ false) steps → AllByRecursion (λ s. is_less s ≡ false) later → AllByRecursion (λ s. is_less s ≡ false) (steps ++ later)
 both_done [] later a b = b
 both_done (s ∷ steps) later a b = (a.0, both_done steps later a.1 b)
 
@@ -43,7 +43,7 @@ done_none rows e e2 same = ([], (same, tt))
 pub done_on : (rows : ℕ) (e1 e2 e3 : PlainEngine) → SomeWereDone rows e1 e2 → SomeWereDone rows e2 e3 → SomeWereDone rows e1 e3
 done_on rows e1 e2 e3 one two = (one.0 ++ two.0, (any_on rows e1 e2 e3 one.0 two.0 one.1.0 two.1.0, both_done one.0 two.0 one.1.1 two.1.1))
 
--- one of them failed
+-- one of them ran out of memory
 or_right : (a b : Bool) → b ≡ true → (a || b) ≡ true
 or_right true b h = refl
 or_right false b h = h
@@ -52,35 +52,46 @@ or_later : (a b c : Bool) → (b ≡ true → c ≡ true) → (a || b) ≡ true 
 or_later true b c f h = refl
 or_later false b c f h = f h
 
-pub failed_behind : (steps later : List AnyStep) → one_has_failed later ≡ true → one_has_failed (steps ++ later) ≡ true
-failed_behind [] later h = h
-failed_behind (s ∷ steps) later h = or_right (has_failed s) (one_has_failed (steps ++ later)) (failed_behind steps later h)
+less_behind : (steps later : List AnyStep) → one_was_less later ≡ true → one_was_less (steps ++ later) ≡ true
+less_behind [] later h = h
+less_behind (s ∷ steps) later h = or_right (is_less s) (one_was_less (steps ++ later)) (less_behind steps later h)
 
-failed_before : (steps later : List AnyStep) → one_has_failed steps ≡ true → one_has_failed (steps ++ later) ≡ true
-failed_before [] later h = absurd (let bad : false ≡ true = h in cc)
-failed_before (s ∷ steps) later h = or_later (has_failed s) (one_has_failed steps) (one_has_failed (steps ++ later)) (failed_before steps later) h
+less_before : (steps later : List AnyStep) → one_was_less steps ≡ true → one_was_less (steps ++ later) ≡ true
+less_before [] later h = absurd (let bad : false ≡ true = h in cc)
+less_before (s ∷ steps) later h = or_later (is_less s) (one_was_less steps) (one_was_less (steps ++ later)) (less_before steps later) h
 
-pub failed_since : (rows : ℕ) (e1 e2 e3 : PlainEngine) → SomeWereDone rows e1 e2 → SomeHaveFailed rows e2 e3 → SomeHaveFailed rows e1 e3
-failed_since rows e1 e2 e3 one two = (one.0 ++ two.0, (any_on rows e1 e2 e3 one.0 two.0 one.1.0 two.1.0, failed_behind one.0 two.0 two.1.1))
+pub less_since : (rows : ℕ) (e1 e2 e3 : PlainEngine) → SomeWereDone rows e1 e2 → SomeWereLess rows e2 e3 → SomeWereLess rows e1 e3
+less_since rows e1 e2 e3 one two = (one.0 ++ two.0, (any_on rows e1 e2 e3 one.0 two.0 one.1.0 two.1.0, less_behind one.0 two.0 two.1.1))
 
-pub failed_then : (rows : ℕ) (e1 e2 e3 : PlainEngine) → SomeHaveFailed rows e1 e2 → SomeWereDone rows e2 e3 → SomeHaveFailed rows e1 e3
-failed_then rows e1 e2 e3 one two = (one.0 ++ two.0, (any_on rows e1 e2 e3 one.0 two.0 one.1.0 two.1.0, failed_before one.0 two.0 one.1.1))
+pub less_then : (rows : ℕ) (e1 e2 e3 : PlainEngine) → SomeWereLess rows e1 e2 → SomeWereDone rows e2 e3 → SomeWereLess rows e1 e3
+less_then rows e1 e2 e3 one two = (one.0 ++ two.0, (any_on rows e1 e2 e3 one.0 two.0 one.1.0 two.1.0, less_before one.0 two.0 one.1.1))
 
-pub failed_twice : (rows : ℕ) (e1 e2 e3 : PlainEngine) → SomeHaveFailed rows e1 e2 → SomeHaveFailed rows e2 e3 → SomeHaveFailed rows e1 e3
-failed_twice rows e1 e2 e3 one two = (one.0 ++ two.0, (any_on rows e1 e2 e3 one.0 two.0 one.1.0 two.1.0, failed_before one.0 two.0 one.1.1))
+pub less_twice : (rows : ℕ) (e1 e2 e3 : PlainEngine) → SomeWereLess rows e1 e2 → SomeWereLess rows e2 e3 → SomeWereLess rows e1 e3
+less_twice rows e1 e2 e3 one two = (one.0 ++ two.0, (any_on rows e1 e2 e3 one.0 two.0 one.1.0 two.1.0, less_before one.0 two.0 one.1.1))
+
+-- a query came home, by whether one did
+none_less : (steps : List AnyStep) → one_was_less steps ≡ false → AllByRecursion (λ s. is_less s ≡ false) steps
+none_less [] h = tt
+none_less (s ∷ steps) h = let neither = or_neither (is_less s) (one_was_less steps) h in (neither.0, none_less steps neither.1)
+
+pub came_home : (rows : ℕ) (all less : Bool) (e e2 : PlainEngine) (steps : List AnyStep) → HaveRunAny rows e steps e2 → one_was_less steps ≡ less → all ≡ not less → HaveComeHome rows all e e2
+came_home rows true true e e2 steps run is home = absurd (let bad : true ≡ false = home in cc)
+came_home rows true false e e2 steps run is home = (steps, (run, none_less steps is))
+came_home rows false true e e2 steps run is home = (steps, (run, is))
+came_home rows false false e e2 steps run is home = absurd (let bad : false ≡ true = home in cc)
 
 runs_out_on : (rows : ℕ) (e1 e2 e3 : PlainEngine) → SomeWereDone rows e1 e2 → HasRunOut rows e2 e3 → HasRunOut rows e1 e3
 runs_out_on rows e1 e2 e3 one h = ⊎_elim
-    (λ failed. inl (failed_since rows e1 e2 e3 one failed))
+    (λ less. inl (less_since rows e1 e2 e3 one less))
     (λ lacked. inr (done_on rows e1 e2 e3 one lacked.0, lacked.1, lacked.2))
     h
 
--- whether or not one failed
+-- whether or not one did
 abbrev SomeWereTried : ℕ → PlainEngine → PlainEngine → Type 0
 SomeWereTried rows old new = (steps : List AnyStep) × HaveRunAny rows old steps new
 
 tried : (rows : ℕ) (e e2 : PlainEngine) → HasRunOut rows e e2 → SomeWereTried rows e e2
-tried rows e e2 h = ⊎_elim (λ failed. (failed.0, failed.1.0)) (λ lacked. (lacked.0.0, lacked.0.1.0)) h
+tried rows e e2 h = ⊎_elim (λ less. (less.0, less.1.0)) (λ lacked. (lacked.0.0, lacked.0.1.0)) h
 
 -- A TURN OF GREATEST SLOPE is one of an operator that might be leased
 goes_of_any : (rows : ℕ) (e : PlainEngine) (t : Turn) (out : PlainEngine) → GoodEngine e → IsTurnOf e rows t out → GoesOutOfAny rows e (lease_of t) out
@@ -89,12 +100,15 @@ goes_of_any rows e t out good h = (h.query, (h.plain, (record { ready = leasable
 out_good : (rows : ℕ) (e out : PlainEngine) (l : Lease) → GoodEngine e → GoesOutOfAny rows e l out → GoodEngine out
 out_good rows e out l good h = subst GoodEngine (sym h.1.1.1) (ready_good e l h.0 h.1.0 good h.1.1.0.ready)
 
-pub any_good : (rows : ℕ) (s : AnyStep) (e e2 : PlainEngine) → GoodEngine e → IsAnyStep rows e s e2 → GoodEngine e2
-any_good rows (RanAny l) e e2 good h = step_good h.0 e2 (Finishes l) (out_good rows e h.0 l good h.1.0) h.1.1
-any_good rows (PassedAny n b) e e2 good h = pass_good e n b e2 good h
-any_good rows (FailedAny l) e e2 good h = step_good h.0 e2 (Breaks l) (out_good rows e h.0 l good h.1.0) h.1.1
+turn_good : (rows : ℕ) (l : Lease) (e e2 : PlainEngine) → GoodEngine e → GoesAndComes rows e l e2 → GoodEngine e2
+turn_good rows l e e2 good h = step_good h.0 e2 (Finishes l) (out_good rows e h.0 l good h.1.0) h.1.1
 
-one_any : (rows : ℕ) (s : Step) (e e2 : PlainEngine) → GoodEngine e → IsDone rows e s e2 → (s2 : AnyStep) × (IsAnyStep rows e s2 e2 × (has_failed s2 ≡ false))
+pub any_good : (rows : ℕ) (s : AnyStep) (e e2 : PlainEngine) → GoodEngine e → IsAnyStep rows e s e2 → GoodEngine e2
+any_good rows (RanAny l) e e2 good h = turn_good rows l e e2 good h
+any_good rows (PassedAny n b) e e2 good h = pass_good e n b e2 good h
+any_good rows (LessAny n l) e e2 good h = turn_good n l e e2 good h.2
+
+one_any : (rows : ℕ) (s : Step) (e e2 : PlainEngine) → GoodEngine e → IsDone rows e s e2 → (s2 : AnyStep) × (IsAnyStep rows e s2 e2 × (is_less s2 ≡ false))
 one_any rows (Ran t) e e2 good h = (RanAny (lease_of t), ((h.0, (goes_of_any rows e t h.0 good h.1.0, h.1.1)), refl))
 one_any rows (Passed n b) e e2 good h = (PassedAny n b, (h, refl))
 
@@ -109,12 +123,15 @@ all_any rows (s ∷ steps) e e2 good h =
 pub few_done : (old new : PlainEngine) (rows : ℕ) → GoodEngine old → RunsTurns old rows (Ok tt) new → SomeWereDone rows old new
 few_done old new rows good h = (all_any rows h.1.0 old new good h.1.1).1
 
-one_failed : (rows : ℕ) (e e2 : PlainEngine) → GoodEngine e → OneHasFailed rows e e2 → SomeHaveFailed rows e e2
-one_failed rows e e2 good h = (FailedAny (lease_of h.0) ∷ [], ((e2, ((h.1.0, (goes_of_any rows e h.0 h.1.0 good h.1.1.0, h.1.1.1)), refl)), refl))
+one_less : (rows : ℕ) (e e2 : PlainEngine) → GoodEngine e → OneHasRunLess rows e e2 → SomeWereLess rows e e2
+one_less rows e e2 good h =
+    let t : Turn = h.ran.0 in
+    let turn : GoesAndComes h.count e (lease_of t) e2 = (h.ran.1.0, (goes_of_any h.count e t h.ran.1.0 good h.ran.1.1.0, h.ran.1.1.1)) in
+    (LessAny h.count (lease_of t) ∷ [], ((e2, ((h.some, h.fewer, turn), refl)), refl))
 
 wanted_any : (rows : ℕ) (e e2 : PlainEngine) → GoodEngine e → RanOutOfMemory rows e e2 → HasRunOut rows e e2
 wanted_any rows e e2 good (inl h) = inr (done_none rows e e2 h.2, subst (λ z. lease_fault z rows ≡ None) (sym h.2) h.0, subst HasReady (sym h.2) h.1)
-wanted_any rows e e2 good (inr h) = inl (one_failed rows e e2 good h)
+wanted_any rows e e2 good (inr h) = inl (one_less rows e e2 good h)
 
 -- THE WHOLE DRAIN: query by query, and then turn by turn
 both_limits : (rows : ℕ) → drain_fault rows ≡ None → drain_fault rows ≡ Some BadLimit → ⊥
@@ -180,10 +197,13 @@ ends old new rows (Err HistoryFull) h = absurd h
 ends old new rows (Err (Foreign entries)) h = absurd h
 
 -- the machine is as it was
+turn_machine : (rows : ℕ) (l : Lease) (e e2 : PlainEngine) → GoesAndComes rows e l e2 → e2.machine ≡ e.machine
+turn_machine rows l e e2 h = comes_machine h.0 e2 l h.1.1.1.0 h.1.1.1.1.0 h.1.1.1.1.1.0 h.1.1.1.1.1.1 ∙ ap (λ z. z.machine) h.1.0.1.1.1
+
 any_machine : (rows : ℕ) (s : AnyStep) (e e2 : PlainEngine) → IsAnyStep rows e s e2 → e2.machine ≡ e.machine
-any_machine rows (RanAny l) e e2 h = comes_machine h.0 e2 l h.1.1.1.0 h.1.1.1.1.0 h.1.1.1.1.1.0 h.1.1.1.1.1.1 ∙ ap (λ z. z.machine) h.1.0.1.1.1
+any_machine rows (RanAny l) e e2 h = turn_machine rows l e e2 h
 any_machine rows (PassedAny n b) e e2 h = ap (λ z. z.machine) h.is
-any_machine rows (FailedAny l) e e2 h = ap (λ z. z.machine) h.1.1.1.1.1.1 ∙ ap (λ z. z.machine) h.1.0.1.1.1
+any_machine rows (LessAny n l) e e2 h = turn_machine n l e e2 h.2
 
 all_machine : (rows : ℕ) (steps : List AnyStep) (e e2 : PlainEngine) → HaveRunAny rows e steps e2 → e2.machine ≡ e.machine
 all_machine rows [] e e2 h = ap (λ z. z.machine) h
@@ -193,16 +213,16 @@ pub by_query_machine : (old new : PlainEngine) (rows : ℕ) (r : Result ⊤ Faul
 by_query_machine old new rows r h = let t = ends old new rows r h in all_machine rows t.0 old new t.1
 
 -- and numbers are given, none taken back
-any_counts : (rows : ℕ) (s : AnyStep) (e e2 : PlainEngine) → IsAnyStep rows e s e2 → e.next + 1 ≡ e2.next
-any_counts rows (RanAny l) e e2 h =
+turn_counts : (rows : ℕ) (l : Lease) (e e2 : PlainEngine) → GoesAndComes rows e l e2 → e.next + 1 ≡ e2.next
+turn_counts rows l e e2 h =
     let home : e2.next ≡ h.0.next = comes_next h.0 e2 l h.1.1.1.0 h.1.1.1.1.0 h.1.1.1.1.1.0 h.1.1.1.1.1.1 in
     let went : h.0.next ≡ e.next + 1 = ap (λ z. z.next) h.1.0.1.1.1 in
     omega (arith, home, went)
+
+any_counts : (rows : ℕ) (s : AnyStep) (e e2 : PlainEngine) → IsAnyStep rows e s e2 → e.next + 1 ≡ e2.next
+any_counts rows (RanAny l) e e2 h = turn_counts rows l e e2 h
 any_counts rows (PassedAny n b) e e2 h = let one : e2.next ≡ e.next + 1 = ap (λ z. z.next) h.is in omega (arith, one)
-any_counts rows (FailedAny l) e e2 h =
-    let home : e2.next ≡ h.0.next = ap (λ z. z.next) h.1.1.1.1.1.1 in
-    let went : h.0.next ≡ e.next + 1 = ap (λ z. z.next) h.1.0.1.1.1 in
-    omega (arith, home, went)
+any_counts rows (LessAny n l) e e2 h = turn_counts n l e e2 h.2
 
 all_give : (rows : ℕ) (steps : List AnyStep) (e e2 : PlainEngine) → HaveRunAny rows e steps e2 → HasGivenMore e e2
 all_give rows [] e e2 h = let same : e2.next ≡ e.next = ap (λ z. z.next) h in omega (arith, same)
@@ -246,9 +266,9 @@ none_any rows (s ∷ steps) e e2 h none =
 pub done_nothing : (rows : ℕ) (e e2 : PlainEngine) → SomeWereDone rows e e2 → e2.next ≤ e.next → e2 ≡ e
 done_nothing rows e e2 h none = none_any rows h.0 e e2 h.1.0 none
 
-pub failed_takes : (rows : ℕ) (e e2 : PlainEngine) → SomeHaveFailed rows e e2 → e.next < e2.next
-failed_takes rows e e2 h = takes h.0 e h.1.0 h.1.1 where
-  takes : (steps : List AnyStep) (e1 : PlainEngine) → HaveRunAny rows e1 steps e2 → one_has_failed steps ≡ true → e1.next < e2.next
+pub less_takes : (rows : ℕ) (e e2 : PlainEngine) → SomeWereLess rows e e2 → e.next < e2.next
+less_takes rows e e2 h = takes h.0 e h.1.0 h.1.1 where
+  takes : (steps : List AnyStep) (e1 : PlainEngine) → HaveRunAny rows e1 steps e2 → one_was_less steps ≡ true → e1.next < e2.next
   takes [] e1 ran some = absurd (let bad : false ≡ true = some in cc)
   takes (s ∷ steps) e1 ran some =
       let one : e1.next + 1 ≡ ran.0.next = any_counts rows s e1 ran.0 ran.1.0 in
@@ -267,75 +287,54 @@ out_below rows end old mid new good first h =
     let ran = all_any rows h.1.0.0 mid h.0 good h.1.0.1 in
     ⊎_elim
     (λ lacked. inr (subst (λ (z : PlainEngine). z.next < end) (sym lacked.2) h.1.1.1))
-    (λ failed. inl (failed_since rows old mid new first (failed_since rows mid h.0 new ran.1 (one_failed rows h.0 new ran.0 failed))))
+    (λ less. inl (less_since rows old mid new first (less_since rows mid h.0 new ran.1 (one_less rows h.0 new ran.0 less))))
     h.1.1.0
 
--- NO QUERY BREAKS where no step fails
-any_kinds : (rows : ℕ) (s : AnyStep) (e e2 : PlainEngine) → GoodEngine e → IsAnyStep rows e s e2 → has_failed s ≡ false → SameKinds e e2
-any_kinds rows (RanAny l) e e2 good h done n =
+-- NO QUERY BREAKS, also where memory runs out
+turn_kinds : (rows : ℕ) (l : Lease) (e e2 : PlainEngine) → GoodEngine e → GoesAndComes rows e l e2 → SameKinds e e2
+turn_kinds rows l e e2 good h n =
     kind_on (remains_at e n) (remains_at h.0 n) (remains_at e2 n)
     (subst (λ z. SameKind (remains_at e n) (remains_at z n)) (sym h.1.0.1.1.1) (kind_same (remains_at e n)))
     (finish_kinds h.0 e2 l (out_good rows e h.0 l good h.1.0) h.1.1 n)
-any_kinds rows (PassedAny k b) e e2 good h done n = pass_kinds e k b e2 good h n
-any_kinds rows (FailedAny l) e e2 good h done n = absurd (let bad : true ≡ false = done in cc)
 
-all_kinds : (rows : ℕ) (steps : List AnyStep) (e e2 : PlainEngine) → GoodEngine e → HaveRunAny rows e steps e2 → AllByRecursion (λ s. has_failed s ≡ false) steps → SameKinds e e2
-all_kinds rows [] e e2 good h done n = subst (λ z. SameKind (remains_at e n) (remains_at z n)) (sym h) (kind_same (remains_at e n))
-all_kinds rows (s ∷ steps) e e2 good h done n =
-    kind_on (remains_at e n) (remains_at h.0 n) (remains_at e2 n) (any_kinds rows s e h.0 good h.1.0 done.0 n)
-    (all_kinds rows steps h.0 e2 (any_good rows s e h.0 good h.1.0) h.1.1 done.1 n)
+any_kinds : (rows : ℕ) (s : AnyStep) (e e2 : PlainEngine) → GoodEngine e → IsAnyStep rows e s e2 → SameKinds e e2
+any_kinds rows (RanAny l) e e2 good h = turn_kinds rows l e e2 good h
+any_kinds rows (PassedAny n b) e e2 good h = pass_kinds e n b e2 good h
+any_kinds rows (LessAny n l) e e2 good h = turn_kinds n l e e2 good h.2
+
+all_kinds : (rows : ℕ) (steps : List AnyStep) (e e2 : PlainEngine) → GoodEngine e → HaveRunAny rows e steps e2 → SameKinds e e2
+all_kinds rows [] e e2 good h n = subst (λ z. SameKind (remains_at e n) (remains_at z n)) (sym h) (kind_same (remains_at e n))
+all_kinds rows (s ∷ steps) e e2 good h n =
+    kind_on (remains_at e n) (remains_at h.0 n) (remains_at e2 n) (any_kinds rows s e h.0 good h.1.0 n)
+    (all_kinds rows steps h.0 e2 (any_good rows s e h.0 good h.1.0) h.1.1 n)
 
 broken_kind : (a : PlainRemains) (answers : List (ℕ × Row)) (upto : ℕ) → SameKind a (Broken answers upto) → a ≡ Broken answers upto
 broken_kind (Running p) answers upto h = absurd h
 broken_kind (Broken others there) answers upto h = ap (λ z. Broken z there) h.0 ∙ ap (Broken answers) h.1
 broken_kind Dropped answers upto h = absurd h
 
-pub stays_whole : (rows : ℕ) (old mid : PlainEngine) → GoodEngine old → IsWholeEngine old → mid.leases ≡ old.leases → SomeWereDone rows old mid → IsWholeEngine mid
-stays_whole rows old mid good whole leases h = record {
+tried_whole : (rows : ℕ) (old mid : PlainEngine) → GoodEngine old → IsWholeEngine old → mid.leases ≡ old.leases → SomeWereTried rows old mid → IsWholeEngine mid
+tried_whole rows old mid good whole leases h = record {
   returned = leases ∙ whole.returned;
   unbroken = λ n answers upto is. whole.unbroken n answers upto
-      (broken_kind (remains_at old n) answers upto (subst (SameKind (remains_at old n)) is (all_kinds rows h.0 old mid good h.1.0 h.1.1 n)));
+      (broken_kind (remains_at old n) answers upto (subst (SameKind (remains_at old n)) is (all_kinds rows h.0 old mid good h.1 n)));
 }
 
--- THE TURNS OF OTHERS
-broken_since : (old mid new : PlainEngine) → mid.leases ≡ old.leases → HasBrokenOne mid new → HasBrokenOne old new
-broken_since old mid new same h = record { query = h.query; answers = h.answers; upto = h.upto; broken = h.broken; left = h.left ∙ ap (of_others h.query) same }
+pub stays_whole : (rows : ℕ) (old mid : PlainEngine) → GoodEngine old → IsWholeEngine old → mid.leases ≡ old.leases → SomeWereDone rows old mid → IsWholeEngine mid
+stays_whole rows old mid good whole leases h = tried_whole rows old mid good whole leases (h.0, h.1.0)
 
-pub leaves_since : (old mid new : PlainEngine) (r : Result ⊤ Fault) → mid.leases ≡ old.leases → LeavesOthers mid r new → LeavesOthers old r new
-leaves_since old mid new (Ok u) same h = h ∙ same
-leaves_since old mid new (Err OutOfMemory) same h = ⊎_elim (λ is. inl (is ∙ same)) (λ is. inr (broken_since old mid new same is)) h
-leaves_since old mid new (Err BadLimit) same h = h ∙ same
-leaves_since old mid new (Err TooManyLeases) same h = h ∙ same
-leaves_since old mid new (Err (Query x)) same h = h ∙ same
-leaves_since old mid new (Err BadName) same h = h ∙ same
-leaves_since old mid new (Err NameTaken) same h = h ∙ same
-leaves_since old mid new (Err BadColumns) same h = h ∙ same
-leaves_since old mid new (Err TooMany) same h = h ∙ same
-leaves_since old mid new (Err UnknownStream) same h = h ∙ same
-leaves_since old mid new (Err UnknownQuery) same h = h ∙ same
-leaves_since old mid new (Err BadWidth) same h = h ∙ same
-leaves_since old mid new (Err ValueRange) same h = h ∙ same
-leaves_since old mid new (Err InstantRange) same h = h ∙ same
-leaves_since old mid new (Err Late) same h = h ∙ same
-leaves_since old mid new (Err Backward) same h = h ∙ same
-leaves_since old mid new (Err Leap) same h = h ∙ same
-leaves_since old mid new (Err StreamFull) same h = h ∙ same
-leaves_since old mid new (Err fault.Broken) same h = h ∙ same
-leaves_since old mid new (Err UnknownLease) same h = h ∙ same
-leaves_since old mid new (Err Stranger) same h = h ∙ same
-leaves_since old mid new (Err HistoryFull) same h = h ∙ same
-leaves_since old mid new (Err (Foreign entries)) same h = h ∙ same
+pub less_whole : (rows : ℕ) (old mid : PlainEngine) → GoodEngine old → IsWholeEngine old → mid.leases ≡ old.leases → SomeWereLess rows old mid → IsWholeEngine mid
+less_whole rows old mid good whole leases h = tried_whole rows old mid good whole leases (h.0, h.1.0)
 
 -- NUMBERS are wanted where no turn is out and it is refused a lease
 none_out : (e : PlainEngine) → IsFull e → e.leases ≡ [] → LEASE_NUMBERS ≤ e.next
 none_out e (inl many) none = let few : length e.leases ≡ 0 = ap length none in absurd (omega (arith, many, few))
 none_out e (inr all) none = all
 
-pub wants_all : (old new : PlainEngine) (rows : ℕ) (r : Result ⊤ Fault) → RunsByQuery old rows r new → LeavesOthers old r new → old.leases ≡ [] → r ≡ Err TooManyLeases → LEASE_NUMBERS ≤ new.next
+pub wants_all : (old new : PlainEngine) (rows : ℕ) (r : Result ⊤ Fault) → RunsByQuery old rows r new → LeavesOthers old new → old.leases ≡ [] → r ≡ Err TooManyLeases → LEASE_NUMBERS ≤ new.next
 wants_all old new rows r ran leaves none is =
     let ended : RunsByQuery old rows (Err TooManyLeases) new = subst (λ (x : Result ⊤ Fault). RunsByQuery old rows x new) is ran in
-    let left : new.leases ≡ old.leases = subst (λ (x : Result ⊤ Fault). LeavesOthers old x new) is leaves in
-    none_out new ended.1.1 (left ∙ none)
+    none_out new ended.1.1 (leaves ∙ none)
 
 -- AS CLIENTS SEE IT
 stops : (old new : PlainEngine) (rows : ℕ) → new.machine ≡ old.machine → GoodEngine new → (f : Fault) → RunsByQuery old rows (Err f) new → Drains (world_of old) (drain_step (world_of old) rows) (Err f) (world_of new)
@@ -363,7 +362,7 @@ stops old new rows machine good HistoryFull h = absurd h
 stops old new rows machine good (Foreign entries) h = absurd h
 
 pub by_query_does : (old new : PlainEngine) (rows : ℕ) (r : Result ⊤ Fault) → GoodEngine new → map (λ q. q.is_dropped) new.machine.queries ≡ map is_gone new.queries → RunsByQuery old rows r new
-    → OnOk r (first_of new.slots ≡ None) → (r ≢ Err OutOfMemory → IsWholeEngine new) → Drains (world_of old) (drain_step (world_of old) rows) r (world_of new)
+    → OnOk r (first_of new.slots ≡ None) → IsWholeEngine new → Drains (world_of old) (drain_step (world_of old) rows) r (world_of new)
 by_query_does old new rows (Ok u) g gone runs idle whole =
-    drain_done old new rows (by_query_machine old new rows (Ok u) runs) runs.0 (all_wait new g (whole (λ e. cc)) idle gone) (all_reached new g (whole (λ e. cc)) idle gone) u
+    drain_done old new rows (by_query_machine old new rows (Ok u) runs) runs.0 (all_wait new g whole idle gone) (all_reached new g whole idle gone) u
 by_query_does old new rows (Err f) g gone runs idle whole = stops old new rows (by_query_machine old new rows (Err f) runs) g f runs

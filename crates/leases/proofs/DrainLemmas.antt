@@ -2,10 +2,8 @@
 use Rattle.std.proofs.Common.{◌≡◌, ◌≢◌, ◌==◌, ◌≤◌, ◌<◌, ◌⊎◌, ℕ, zero, suc, ◌+◌, ◌&&◌, not, nat_le, Bool, true, false, inl, inr, Some, None, IfErr, IsErrAnd, OnErr, OnOk, is_some, Result, Ok, Err, List, [], ◌∷◌, ◌++◌, length, get_or, set, refl, sym, ap, ◌∙◌, subst, arith, eq-eqb}
 use Rattle.std.specs.Prelude.{⊤}
 use Rattle.std.proofs.lemmas.Bool.{ne_eqb}
-use Rattle.std.proofs.lemmas.Option.{slice_get_within}
 use Rattle.values.specs.Row.{Row}
 use Rattle.turn.specs.declared.turns.Turn.{Turn}
-use Rattle.plan.proofs.Lists.{by_test}
 use Rattle.names.specs.Faults as faults
 use Rattle.reference.specs.Machine.{Registered}
 use Rattle.reference.specs.World.{drain_fault}
@@ -15,16 +13,15 @@ use Rattle.reference.specs.declared.fault.Fault.TheVariants.{Query, BadName, Nam
 use Rattle.reference.specs.declared.limits.TheConstants.{MAX_TURN}
 use Rattle.laws_queries.specs.Queries.{PlainQuery}
 use Rattle.run_queue.specs.Slots.{first_of}
-use Rattle.laws_engine.proofs.BackLemmas.{remains_here}
 use Rattle.laws_engine.proofs.HistoryLemmas.{step_good}
 use Rattle.laws_engine.proofs.LeaseLemmas.{lease_good}
 use Rattle.laws_engine.proofs.PassingLemmas.{pass_good}
-use Rattle.laws_engine.specs.Calls.{of_others, others}
-use Rattle.laws_engine.specs.Engines.{Broken, Dropped, GoodEngine, IsIn, Lease, PlainEngine, PlainRemains, Running, remains_at, upto_at}
+use Rattle.laws_engine.specs.Calls.{others}
+use Rattle.laws_engine.specs.Engines.{Broken, Dropped, GoodEngine, IsIn, Lease, PlainEngine, PlainRemains, Running, remains_at}
 use Rattle.laws_engine.specs.Histories as history
 use Rattle.laws_engine.specs.Histories.{ComesBack, IsCallStep}
 use Rattle.laws_engine.specs.Passing.{HasPassed}
-use Rattle.leases.specs.Drains.{HasBrokenOne, RanOutOfMemory, HaveRun, IsDone, LeavesOthers, OneHasRun, OneOrMoreHaveRun, Passed, Ran, RanOutBelow, RunsFirst, RunsTurns, SomeHaveRun, Step, as_drained}
+use Rattle.leases.specs.Drains.{HaveRun, IsDone, LeavesOthers, OneHasRun, OneOrMoreHaveRun, OneTurnHasRun, Passed, Ran, RanOutBelow, RanOutOfMemory, RunsFirst, RunsTurns, SomeHaveRun, Step, as_drained}
 use Rattle.leases.specs.Passing.{OneHasPassed}
 use Rattle.leases.specs.Turns.{HasReady, IsTurnOf}
 use Rattle.leases.specs.Views.{lease_of}
@@ -39,6 +36,9 @@ none_run rows e = ([], refl)
 one_more : (rows : ℕ) (e1 e2 e3 : PlainEngine) (steps : List Step) (s : Step) → HaveRun rows e1 steps e2 → IsDone rows e2 s e3 → HaveRun rows e1 (steps ++ s ∷ []) e3
 one_more rows e1 e2 e3 [] s ran done = (e3, (subst (λ e. IsDone rows e s e3) ran done, refl))
 one_more rows e1 e2 e3 (r ∷ steps) s ran done = (ran.0, (ran.1.0, one_more rows ran.0 e2 e3 steps s ran.1.1 done))
+
+pub turn_has_run : (rows : ℕ) (e1 e2 : PlainEngine) → OneTurnHasRun rows e1 e2 → OneHasRun rows e1 e2
+turn_has_run rows e1 e2 one = (Ran one.0, one.1)
 
 pub more_run : (rows : ℕ) (e1 e2 e3 : PlainEngine) → SomeHaveRun rows e1 e2 → OneHasRun rows e2 e3 → SomeHaveRun rows e1 e3
 more_run rows e1 e2 e3 ran one = (ran.0 ++ one.0 ∷ [], one_more rows e1 e2 e3 ran.0 one.0 ran.1 one.1)
@@ -75,11 +75,11 @@ told_limit : (b : Bool) (f : Fault) → Some f ≡ faults.first_of ((b, BadLimit
 told_limit true f h = cc
 told_limit false f h = absurd (cc)
 
-pub refused_drain : (e : PlainEngine) (rows : ℕ) (f : Fault) → Some f ≡ drain_fault rows → RunsTurns e rows (Err f) e × LeavesOthers e (Err f) e
+pub refused_drain : (e : PlainEngine) (rows : ℕ) (f : Fault) → Some f ≡ drain_fault rows → RunsTurns e rows (Err f) e × LeavesOthers e e
 refused_drain e rows f h =
     let is : f ≡ BadLimit = told_limit (not (nat_le 1 rows && nat_le rows MAX_TURN)) f h in
     let limit : drain_fault rows ≡ Some BadLimit = sym h ∙ ap Some is in
-    subst (λ z. RunsTurns e rows (Err z) e × LeavesOthers e (Err z) e) (sym is) ((limit, refl), refl)
+    subst (λ z. RunsTurns e rows (Err z) e × LeavesOthers e e) (sym is) ((limit, refl), refl)
 
 abbrev pub failed : Fault → Result Bool Fault
 failed f = Err f
@@ -136,32 +136,7 @@ step_ends e1 e2 e3 rows Stranger none ran h = absurd h
 step_ends e1 e2 e3 rows HistoryFull none ran h = absurd h
 step_ends e1 e2 e3 rows (Foreign entries) none ran h = absurd h
 
--- where memory was not wanted it did nothing
-pub step_stays : (e1 e2 : PlainEngine) (rows : ℕ) (f : Fault) → RunsFirst e1 rows (Err f) e2 → f ≢ OutOfMemory → e2 ≡ e1
-step_stays e1 e2 rows OutOfMemory h had = absurd (had refl)
-step_stays e1 e2 rows TooManyLeases h had = h.0
-step_stays e1 e2 rows (Query x) h had = absurd h
-step_stays e1 e2 rows BadName h had = absurd h
-step_stays e1 e2 rows NameTaken h had = absurd h
-step_stays e1 e2 rows BadColumns h had = absurd h
-step_stays e1 e2 rows TooMany h had = absurd h
-step_stays e1 e2 rows UnknownStream h had = absurd h
-step_stays e1 e2 rows UnknownQuery h had = absurd h
-step_stays e1 e2 rows BadWidth h had = absurd h
-step_stays e1 e2 rows ValueRange h had = absurd h
-step_stays e1 e2 rows InstantRange h had = absurd h
-step_stays e1 e2 rows Late h had = absurd h
-step_stays e1 e2 rows Backward h had = absurd h
-step_stays e1 e2 rows Leap h had = absurd h
-step_stays e1 e2 rows StreamFull h had = absurd h
-step_stays e1 e2 rows BadLimit h had = absurd h
-step_stays e1 e2 rows fault.Broken h had = absurd h
-step_stays e1 e2 rows UnknownLease h had = absurd h
-step_stays e1 e2 rows Stranger h had = absurd h
-step_stays e1 e2 rows HistoryFull h had = absurd h
-step_stays e1 e2 rows (Foreign entries) h had = absurd h
-
--- nor did it where turns or numbers were
+-- where turns or numbers were wanted it did nothing
 pub full_stays : (e1 e2 : PlainEngine) (rows : ℕ) (f : Fault) → failed f ≡ failed TooManyLeases → RunsFirst e1 rows (Err f) e2 → e2.next ≡ e1.next
 full_stays e1 e2 rows f is h =
     let stays : RunsFirst e1 rows (Err TooManyLeases) e2 = subst (λ z. RunsFirst e1 rows (Err z) e2) (same_fault is) h in
@@ -250,12 +225,9 @@ have_machine : (rows : ℕ) (steps : List Step) (e1 e2 : PlainEngine) → HaveRu
 have_machine rows [] e1 e2 ran = ap (λ e. e.machine) ran
 have_machine rows (s ∷ steps) e1 e2 ran = have_machine rows steps ran.0 e2 ran.1.1 ∙ done_machine rows s e1 ran.0 ran.1.0
 
-breaks_machine : (e1 e2 : PlainEngine) (l : Lease) → IsCallStep e1 (history.Breaks l) e2 → e2.machine ≡ e1.machine
-breaks_machine e1 e2 l h = ap (λ e. e.machine) h.1.1.1.1
-
 last_machine : (rows : ℕ) (e1 e2 : PlainEngine) → RanOutOfMemory rows e1 e2 → e2.machine ≡ e1.machine
 last_machine rows e1 e2 (inl h) = ap (λ e. e.machine) h.2
-last_machine rows e1 e2 (inr h) = breaks_machine h.1.0 e2 (lease_of h.0) h.1.1.1 ∙ ap (λ e. e.machine) h.1.1.0.after
+last_machine rows e1 e2 (inr h) = done_machine h.count (Ran h.ran.0) e1 e2 h.ran.1
 
 pub drain_machine : (old new : PlainEngine) (rows : ℕ) (r : Result ⊤ Fault) → RunsTurns old rows r new → new.machine ≡ old.machine
 drain_machine old new rows (Ok u) h = have_machine rows h.1.0 old new h.1.1
@@ -292,11 +264,6 @@ all_left (x ∷ ls) l h =
     let other : (x.number == l.number) ≡ false = ne_eqb x.number l.number (λ e. absurd (omega (arith, e, h x (inl refl)))) in
     rw other (ap (λ rest. x ∷ rest) (all_left ls l (λ a i. h a (inr i))))
 
--- the last goes with its query
-pub last_goes : (ls : List Lease) (l : Lease) → of_others l.query (ls ++ l ∷ []) ≡ of_others l.query ls
-last_goes [] l = let same : (l.query == l.query) ≡ true = eq-eqb l.query l.query refl in rw same refl
-last_goes (x ∷ ls) l = by_test (x.query == l.query) (λ t. rw t (last_goes ls l)) (λ f. rw f (ap (λ rest. x ∷ rest) (last_goes ls l)))
-
 module _ (e1 e2 : PlainEngine) (rows : ℕ) (t : Turn) (good : GoodEngine e1) (out : IsTurnOf e1 rows t e2) where
   abbrev turn : Lease
   turn = lease_of t
@@ -309,19 +276,6 @@ module _ (e1 e2 : PlainEngine) (rows : ℕ) (t : Turn) (good : GoodEngine e1) (o
 
   leaves : (e3 : PlainEngine) → IsCallStep e2 (history.Finishes turn) e3 → e3.leases ≡ e1.leases
   leaves e3 home = comes_leases e2 e3 turn home.1.0 home.1.1.0 home.1.1.1.0 home.1.1.1.1 ∙ others_left
-
-  breaks : (e3 : PlainEngine) → IsCallStep e2 (history.Breaks turn) e3 → HasBrokenOne e1 e3
-  breaks e3 h =
-      let many : length e2.queries ≡ length e1.queries = ap (λ e. length e.queries) out.after in
-      let machine : length e2.machine.queries ≡ length e1.machine.queries = ap (λ e. length e.machine.queries) out.after in
-      let few : t.node.query < length e2.queries = omega (arith, good.many, many, machine, slice_get_within e2.machine.queries t.node.query h.1.0 h.1.1.1.0.registered) in
-      record {
-        query = t.node.query;
-        answers = h.1.1.0.answers;
-        upto = upto_at e2 t.node.query;
-        broken = ap (λ e. remains_at e t.node.query) h.1.1.1.1 ∙ remains_here e2 t.node.query (Broken h.1.1.0.answers (upto_at e2 t.node.query)) few;
-        left = ap (λ e. e.leases) h.1.1.1.1 ∙ ap (λ e. of_others t.node.query e.leases) out.after ∙ last_goes e1.leases turn;
-      }
 
 done_leaves : (e1 e2 : PlainEngine) (rows : ℕ) (s : Step) → GoodEngine e1 → IsDone rows e1 s e2 → e2.leases ≡ e1.leases
 done_leaves e1 e2 rows (Ran t) good one = leaves e1 one.0 rows t good one.1.0 e2 one.1.1
@@ -350,20 +304,13 @@ have_left rows (s ∷ steps) e1 e2 good ran =
 pub steps_leave : (e1 e2 : PlainEngine) (rows : ℕ) → GoodEngine e1 → OneOrMoreHaveRun rows e1 e2 → e2.leases ≡ e1.leases
 steps_leave e1 e2 rows good h = step_leaves h.0 e2 rows (have_good rows h.1.0.0 e1 h.0 good h.1.0.1) h.1.1 ∙ have_left rows h.1.0.0 e1 h.0 good h.1.0.1
 
-broken_since : (old e1 e2 : PlainEngine) → e1.leases ≡ old.leases → HasBrokenOne e1 e2 → HasBrokenOne old e2
-broken_since old e1 e2 same h = record { query = h.query; answers = h.answers; upto = h.upto; broken = h.broken; left = h.left ∙ ap (of_others h.query) same }
+last_leaves : (e1 e2 : PlainEngine) (rows : ℕ) → GoodEngine e1 → RanOutOfMemory rows e1 e2 → e2.leases ≡ e1.leases
+last_leaves e1 e2 rows good (inl h) = ap (λ e. e.leases) h.2
+last_leaves e1 e2 rows good (inr h) = done_leaves e1 e2 h.count (Ran h.ran.0) good h.ran.1
 
-since : (old e1 e2 : PlainEngine) → e1.leases ≡ old.leases → (e2.leases ≡ e1.leases) ⊎ HasBrokenOne e1 e2 → LeavesOthers old (Err OutOfMemory) e2
-since old e1 e2 same (inl h) = inl (h ∙ same)
-since old e1 e2 same (inr h) = inr (broken_since old e1 e2 same h)
-
-wanted : (e1 e2 : PlainEngine) (rows : ℕ) → GoodEngine e1 → RanOutOfMemory rows e1 e2 → (e2.leases ≡ e1.leases) ⊎ HasBrokenOne e1 e2
-wanted e1 e2 rows good (inl h) = inl (ap (λ e. e.leases) h.2)
-wanted e1 e2 rows good (inr h) = inr (breaks e1 h.1.0 rows h.0 good h.1.1.0 e2 h.1.1.1)
-
-pub refused_leaves : (old e1 e2 : PlainEngine) (rows : ℕ) (f : Fault) → e1.leases ≡ old.leases → GoodEngine e1 → RunsFirst e1 rows (Err f) e2 → LeavesOthers old (Err f) e2
+pub refused_leaves : (old e1 e2 : PlainEngine) (rows : ℕ) (f : Fault) → e1.leases ≡ old.leases → GoodEngine e1 → RunsFirst e1 rows (Err f) e2 → LeavesOthers old e2
 refused_leaves old e1 e2 rows OutOfMemory same good h =
-    since old h.0 e2 (have_left rows h.1.0.0 e1 h.0 good h.1.0.1 ∙ same) (wanted h.0 e2 rows (have_good rows h.1.0.0 e1 h.0 good h.1.0.1) h.1.1)
+    last_leaves h.0 e2 rows (have_good rows h.1.0.0 e1 h.0 good h.1.0.1) h.1.1 ∙ have_left rows h.1.0.0 e1 h.0 good h.1.0.1 ∙ same
 refused_leaves old e1 e2 rows TooManyLeases same good h = ap (λ e. e.leases) h.0 ∙ same
 refused_leaves old e1 e2 rows (Query x) same good h = absurd h
 refused_leaves old e1 e2 rows BadName same good h = absurd h
@@ -433,3 +380,32 @@ have_whole rows (s ∷ steps) e1 e2 whole ran = have_whole rows steps ran.0 e2 (
 
 pub steps_whole : (e1 e2 : PlainEngine) (rows : ℕ) → IsWholeEngine e1 → OneOrMoreHaveRun rows e1 e2 → IsWholeEngine e2
 steps_whole e1 e2 rows whole h = done_whole h.0 e2 rows h.1.1.0 (have_whole rows h.1.0.0 e1 h.0 whole h.1.0.1) h.1.1.1
+
+-- and when memory ran out, or a step was refused
+last_whole : (e1 e2 : PlainEngine) (rows : ℕ) → IsWholeEngine e1 → RanOutOfMemory rows e1 e2 → IsWholeEngine e2
+last_whole e1 e2 rows whole (inl h) = subst IsWholeEngine (sym h.2) whole
+last_whole e1 e2 rows whole (inr h) = done_whole e1 e2 h.count (Ran h.ran.0) whole h.ran.1
+
+pub refused_whole : (e1 e2 : PlainEngine) (rows : ℕ) (f : Fault) → IsWholeEngine e1 → RunsFirst e1 rows (Err f) e2 → IsWholeEngine e2
+refused_whole e1 e2 rows OutOfMemory whole h = last_whole h.0 e2 rows (have_whole rows h.1.0.0 e1 h.0 whole h.1.0.1) h.1.1
+refused_whole e1 e2 rows TooManyLeases whole h = subst IsWholeEngine (sym h.0) whole
+refused_whole e1 e2 rows (Query x) whole h = absurd h
+refused_whole e1 e2 rows BadName whole h = absurd h
+refused_whole e1 e2 rows NameTaken whole h = absurd h
+refused_whole e1 e2 rows BadColumns whole h = absurd h
+refused_whole e1 e2 rows TooMany whole h = absurd h
+refused_whole e1 e2 rows UnknownStream whole h = absurd h
+refused_whole e1 e2 rows UnknownQuery whole h = absurd h
+refused_whole e1 e2 rows BadWidth whole h = absurd h
+refused_whole e1 e2 rows ValueRange whole h = absurd h
+refused_whole e1 e2 rows InstantRange whole h = absurd h
+refused_whole e1 e2 rows Late whole h = absurd h
+refused_whole e1 e2 rows Backward whole h = absurd h
+refused_whole e1 e2 rows Leap whole h = absurd h
+refused_whole e1 e2 rows StreamFull whole h = absurd h
+refused_whole e1 e2 rows BadLimit whole h = absurd h
+refused_whole e1 e2 rows fault.Broken whole h = absurd h
+refused_whole e1 e2 rows UnknownLease whole h = absurd h
+refused_whole e1 e2 rows Stranger whole h = absurd h
+refused_whole e1 e2 rows HistoryFull whole h = absurd h
+refused_whole e1 e2 rows (Foreign entries) whole h = absurd h

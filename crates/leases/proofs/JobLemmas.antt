@@ -1,29 +1,25 @@
 -- Queries that were out with jobs come home, one after the other: each time the engine is a good one that has gone through turns of the query.
-use Rattle.std.proofs.Common.{◌≡◌, ◌≢◌, ◌<◌, ◌≤◌, ◌+◌, ◌*◌, ◌++◌, ◌==◌, ◌⊎◌, ⊎_elim, inl, inr, not, filter, ℕ, zero, suc, true, false, Some, None, List, [], ◌∷◌, length, map, set, refl, sym, ap, ap₂, ◌∙◌, subst, arith, length-append}
+use Rattle.std.proofs.Common.{◌≡◌, ◌≢◌, ◌<◌, ◌≤◌, ◌+◌, ◌*◌, ◌++◌, inl, inr, not, ℕ, zero, suc, Bool, false, Some, List, [], ◌∷◌, length, map, set, refl, sym, ap, ap₂, ◌∙◌, subst, arith, length-append}
 use Rattle.std.specs.Prelude.{slice_get}
 use Rattle.std.specs.List.{AllByRecursion}
 use Rattle.std.proofs.Math.Seq.{map-set_same}
-use Rattle.std.proofs.lemmas.List.{get_or-set_same, length-map, length-set, map-set, set-set, set_comm}
+use Rattle.std.proofs.lemmas.List.{get_or-set_same, length-map, length-set, set-set, set_comm}
 use Rattle.std.proofs.lemmas.Option.{slice_get_within}
 use Rattle.reference.specs.Machine.{Registered}
 use Rattle.laws_queries.specs.Queries.{PlainQuery, log_at}
 use Rattle.query_runtime.specs.Turns.{HasOperator, log_of}
 use Rattle.laws_queries.specs.Registrations.{HaveColumnNames}
-use Rattle.run_queue.specs.Slots.{changed, without_query}
+use Rattle.run_queue.specs.Slots.{changed}
 use Rattle.run_queue.specs.declared.slots.Slot.{Slot}
 use Rattle.laws_engine.specs.Asks.{IsOperator}
 use Rattle.laws_engine.specs.Bounds.{HaveFewClosed}
-use Rattle.laws_engine.specs.Engines.{Broken, Dropped, HasSlots, IsIn, PlainEngine, PlainRemains, Running, next_of, query_at, remains_at, slot_at, slot_in, slot_of}
+use Rattle.laws_engine.specs.Engines.{Dropped, HasSlots, IsIn, PlainEngine, PlainRemains, Running, query_at, remains_at, slot_at, slot_of}
 use Rattle.laws_engine.proofs.AskLemmas.{may_ask}
-use Rattle.laws_engine.proofs.BackLemmas.{numbered, remains_here, remains_there}
-use Rattle.laws_engine.proofs.SlotLemmas.{left_slots}
-use Rattle.laws_engine.proofs.TableLemmas.{same_slot_in}
-use Rattle.leases.specs.Alone.{HasFailedOwn}
-use Rattle.leases.specs.Applied.{Stops}
+use Rattle.laws_engine.proofs.BackLemmas.{remains_here, remains_there}
+use Rattle.leases.specs.Alone.{one_was_less_own}
 use Rattle.leases.specs.Asked.{HasOperatorAt}
-use Rattle.leases.specs.ByQuery.{AnyStep, FailedAny, HaveComeHome, HaveRunAny, IsAnyStep}
+use Rattle.leases.specs.ByQuery.{HaveComeHome}
 use Rattle.leases.specs.Jobs.{AreBrought, AreOut, HaveOwnQueries, IsBrought, IsDoneJob, IsJobOf, placed}
-use Rattle.leases.specs.Looks.{is_broken}
 use Rattle.leases.specs.Passing.{slots_below}
 use Rattle.leases.specs.Readers.{next_for, readers_from, readers_of, runs, with_slots, with_update, with_updates}
 use Rattle.leases.specs.Shown.{engine_in}
@@ -31,15 +27,13 @@ use Rattle.leases.specs.Sound.{is_gone}
 use Rattle.leases.specs.Undropped.{undropped_of}
 use Rattle.leases.specs.Views.{lease_of, remains_of}
 use Rattle.leases.specs.declared.limits.TheConstants.{LEASE_NUMBERS}
-use Rattle.leases.specs.declared.reader.WindowReader.{WindowReader}
 use Rattle.leases.specs.declared.state.EngineState.{EngineState}
 use Rattle.leases.specs.declared.state.jobs.Job.{Job}
 use Rattle.leases.specs.declared.state.jobs.TheConstants.{MOST_TURNS}
 use Rattle.leases.proofs.AloneLemmas as alone
-use Rattle.leases.proofs.AloneLemmas.{After, HasRunOn, after_on, all_own, failed, failing, fails_after, fails_step}
+use Rattle.leases.proofs.AloneLemmas.{After, HasRunOn, all_own}
 use Rattle.leases.proofs.BeatLemmas.{next_is}
-use Rattle.leases.proofs.ByQueryLemmas.{failed_behind}
-use Rattle.leases.proofs.ListedLemmas.{readers_left}
+use Rattle.leases.proofs.ByQueryLemmas.{came_home}
 use Rattle.leases.proofs.StandLemmas.{all_of}
 use Rattle.leases.proofs.ToldAllLemmas.{all_told, below_are, gone_on, told_as}
 use Rattle.leases.proofs.UpdateLemmas.{same_slots}
@@ -124,11 +118,6 @@ updates_same a b (x ∷ todo) slots h =
     updates_same a b todo (with_update a x slots) (λ y i. h y (inr i))
     ∙ ap (with_updates b todo) (ap (λ z. changed x z slots) (h x (inl refl)))
 
--- ONE MORE STEP
-one_more_any : (rows : ℕ) (e1 e2 e3 : PlainEngine) (steps : List AnyStep) (s : AnyStep) → HaveRunAny rows e1 steps e2 → IsAnyStep rows e2 s e3 → HaveRunAny rows e1 (steps ++ s ∷ []) e3
-one_more_any rows e1 e2 e3 [] s ran done = (e3, (subst (λ e. IsAnyStep rows e s e3) ran done, refl))
-one_more_any rows e1 e2 e3 (r ∷ steps) s ran done = (ran.0, (ran.1.0, one_more_any rows ran.0 e2 e3 steps s ran.1.1 done))
-
 -- NUMBERS
 one_fewer : (a m t s k : ℕ) → (a + 1) * m + s ≤ k → t ≤ m → a * m + (s + t) ≤ k
 one_fewer a m t s k h few = let more : (a + 1) * m ≡ a * m + m = omega arith in omega (arith, h, few, more)
@@ -176,7 +165,7 @@ module _ (e : PlainEngine) (rows : ℕ) (rest : List Job) (job : Job) (s : Engin
       let b : length here ≡ length s.remains.items = length-map s.remains.items remains_of in
       omega (arith, few, a, b)
 
-  abbrev pub done : IsDoneJob e.machine.streams q rows p job
+  abbrev pub done : IsDoneJob e.machine.streams rows p job
   done = last.brought.done
 
   pub has_numbers : s.next + job.turns ≤ LEASE_NUMBERS
@@ -243,13 +232,13 @@ module _ (e : PlainEngine) (rows : ℕ) (rest : List Job) (job : Job) (s : Engin
     no_leases : m.leases.items ≡ []
     no_leases = leases ∙ out.returned
 
-    has_run : (e2 : PlainEngine) × HasRunOn rows e n count (Running after) e2
+    has_run : (e2 : PlainEngine) × HasRunOn rows e n count (one_was_less_own done.steps) (Running after) e2
     has_run = all_own rows done.steps e n q p after out.good returned of.registered of.running done.run
 
     abbrev e1 : PlainEngine
     e1 = has_run.0
 
-    on : HasRunOn rows e n count (Running after) e1
+    on : HasRunOn rows e n count (one_was_less_own done.steps) (Running after) e1
     on = has_run.1
 
     machine_on : e1.machine ≡ e.machine
@@ -264,172 +253,92 @@ module _ (e : PlainEngine) (rows : ℕ) (rest : List Job) (job : Job) (s : Engin
     returned_on : e1.leases ≡ []
     returned_on = ap (λ (z : PlainEngine). z.leases) on.after.is ∙ returned
 
-    -- AND RUNS
-    module _ (runs_on : remains_of job.remains ≡ Running after) (counts : job.turns ≡ count) where
-      abbrev g : PlainEngine
-      g = gone_on e n q p after out.good of.registered of.running (e.next + count)
+    -- AND RUNS ON
+    abbrev g : PlainEngine
+    g = gone_on e n q p after out.good of.registered of.running (e.next + count)
 
-      abbrev bare : PlainEngine
-      bare = record e { queries = set here n (Running after); next = e.next + count }
+    abbrev bare : PlainEngine
+    bare = record e { queries = set here n (Running after); next = e.next + count }
 
-      engine_is : engine_in m ≡ bare
-      engine_is = put_e ∙ ap₂ (λ r k. record e { queries = set here n r; next = e.next + k }) runs_on counts
+    engine_is : engine_in m ≡ bare
+    engine_is = put_e ∙ ap₂ (λ r k. record e { queries = set here n r; next = e.next + k }) done.running done.counts
 
-      running_bare : remains_at bare n ≡ Running after
-      running_bare = get_or-set_same here n (Running after) Dropped (let a : length here ≡ length s.remains.items = length-map s.remains.items remains_of in omega (arith, within, a))
+    running_bare : remains_at bare n ≡ Running after
+    running_bare = get_or-set_same here n (Running after) Dropped (let a : length here ≡ length s.remains.items = length-map s.remains.items remains_of in omega (arith, within, a))
 
-      running_g : remains_at g n ≡ Running after
-      running_g = remains_here e n (Running after) few
+    running_g : remains_at g n ≡ Running after
+    running_g = remains_here e n (Running after) few
 
-      is_operator : (k : ℕ) → k < length q.nodes → IsOperator e1 n k q after
-      is_operator k lt = record { registered = registered_on; running = running_on; within = lt }
+    is_operator : (k : ℕ) → k < length q.nodes → IsOperator e1 n k q after
+    is_operator k lt = record { registered = registered_on; running = running_on; within = lt }
 
-      has_operator : (k : ℕ) → k < length q.nodes → HasOperatorAt (engine_in m) n k
-      has_operator k lt =
-          let may = may_ask e1 on.after.good in
-          subst (λ z. HasOperatorAt z n k) (sym engine_is) (
-            q,
-            (
-              after,
-              record {
-                registered = of.registered;
-                running = running_bare;
-                within = lt;
-                operator = subst (λ z. HasOperator z.streams after k) machine_on (may.operators n k q after (is_operator k lt));
-                log = subst (λ z. log_of z.streams after k ≡ log_at z q k) machine_on (may.logs n k q after (is_operator k lt));
-              },
-            ),
-          )
-
-      listed : job.slots.items ≡ slots_below e n q p (length p.operators)
-      listed = of.listed q p of.registered of.running
-
-      many : length p.operators ≡ length q.nodes
-      many = alone.many e n q p out.good returned of.registered of.running
-
-      pub may_change : AllByRecursion (λ z. HasOperatorAt (engine_in m) z.query z.operator) job.slots.items
-      may_change = all_of (λ z. HasOperatorAt (engine_in m) z.query z.operator) job.slots.items (λ y i.
-          let r = below_are e n q p (length p.operators) y (subst (λ zs. IsIn zs y) listed i) in
-          subst (λ (z : Slot). HasOperatorAt (engine_in m) z.query z.operator) (sym r.1.1) (has_operator r.0 (omega (arith, r.1.0, many))))
-
-      next_same_for : (k : ℕ) → next_for (engine_in m) n k ≡ next_for g n k
-      next_same_for k =
-          ap (λ z. next_for z n k) engine_is ∙ next_is bare n k q after of.registered running_bare
-          ∙ sym (next_is g n k q after of.registered running_g)
-
-      tells_same : with_updates (engine_in m) job.slots.items e.slots ≡ with_updates g job.slots.items e.slots
-      tells_same = updates_same (engine_in m) g job.slots.items e.slots (λ y i.
-          let r = below_are e n q p (length p.operators) y (subst (λ zs. IsIn zs y) listed i) in
-          subst (λ (z : Slot). next_for (engine_in m) z.query z.operator ≡ next_for g z.query z.operator) (sym r.1.1) (next_same_for r.0))
-
-      module _ (w : EngineState) (told : w ≡ with_slots m (with_updates (engine_in m) job.slots.items m.slots)) where
-        has_slots : HasSlots (slot_of (record g { slots = e1.slots })) e1.slots
-        has_slots = subst (λ z. HasSlots (slot_of z) e1.slots) on.after.is on.after.good.slots
-
-        slots_then : w.slots ≡ e1.slots
-        slots_then =
-            ap (λ (z : EngineState). z.slots) told
-            ∙ ap (with_updates (engine_in m) job.slots.items) slots_before
-            ∙ tells_same
-            ∙ ap (λ ts. with_updates g ts e.slots) listed
-            ∙ same_slots (slot_of g) _ e1.slots (all_told e n q p after out.good of.registered of.running (e.next + count)) (told_as e n q p after out.good of.registered of.running (e.next + count) e1.slots has_slots)
-
-        engine_then : engine_in w ≡ record e { queries = set here n (Running after); next = e.next + count; slots = w.slots }
-        engine_then =
-            ap engine_in told
-            ∙ ap (λ (z : PlainEngine). record z { slots = with_updates (engine_in m) job.slots.items m.slots }) engine_is
-            ∙ ap (λ ss. record bare { slots = ss }) (sym (ap (λ (z : EngineState). z.slots) told))
-
-        readers_then : w.readers.items ≡ readers_of e1
-        readers_then =
-            ap (λ (z : EngineState). z.readers.items) told ∙ readers ∙ out.readers
-            ∙ ap (readers_from 0 e.machine.queries) (sym (map-set_same runs e.queries n (Running after) Dropped (sym (ap runs of.running))))
-            ∙ ap readers_of (sym on.after.is)
-
-        pub home_runs : (e2 : PlainEngine) × (AreOut e2 rows rest w × HaveComeHome rows true e e2)
-        home_runs = (
-          e1,
+    has_operator : (k : ℕ) → k < length q.nodes → HasOperatorAt (engine_in m) n k
+    has_operator k lt =
+        let may = may_ask e1 on.after.good in
+        subst (λ z. HasOperatorAt z n k) (sym engine_is) (
+          q,
           (
-            comes_home w (Running after) count e1 on.after counts refl engine_then slots_then (ap (λ (z : EngineState). z.leases.items) told ∙ no_leases) (ap (λ (z : EngineState). z.undropped) told ∙ undropped) readers_then,
-            (on.steps, (on.run, on.done)),
+            after,
+            record {
+              registered = of.registered;
+              running = running_bare;
+              within = lt;
+              operator = subst (λ z. HasOperator z.streams after k) machine_on (may.operators n k q after (is_operator k lt));
+              log = subst (λ z. log_of z.streams after k ≡ log_at z q k) machine_on (may.logs n k q after (is_operator k lt));
+            },
           ),
         )
 
-    -- OR IT BROKE
-    module _ (broke : remains_of job.remains ≡ Broken after.answers (next_of q after)) (counts : job.turns ≡ count + 1) (fails : HasFailedOwn e.machine.streams rows after) where
-      abbrev gone : PlainRemains
-      gone = Broken after.answers (next_of q after)
+    listed : job.slots.items ≡ slots_below e n q p (length p.operators)
+    listed = of.listed q p of.registered of.running
 
-      fails_on : HasFailedOwn e1.machine.streams rows after
-      fails_on = subst (λ z. HasFailedOwn z.streams rows after) (sym machine_on) fails
+    many : length p.operators ≡ length q.nodes
+    many = alone.many e n q p out.good returned of.registered of.running
 
-      abbrev e2 : PlainEngine
-      e2 = failed e1 n q after on.after.good returned_on registered_on running_on rows fails_on
+    pub may_change : AllByRecursion (λ z. HasOperatorAt (engine_in m) z.query z.operator) job.slots.items
+    may_change = all_of (λ z. HasOperatorAt (engine_in m) z.query z.operator) job.slots.items (λ y i.
+        let r = below_are e n q p (length p.operators) y (subst (λ zs. IsIn zs y) listed i) in
+        subst (λ (z : Slot). HasOperatorAt (engine_in m) z.query z.operator) (sym r.1.1) (has_operator r.0 (omega (arith, r.1.0, many))))
 
-      after2 : After e n (count + 1) gone e2
-      after2 = after_on e e1 e2 n count 1 (Running after) gone on.after (fails_after e1 n q after on.after.good returned_on registered_on running_on rows fails_on)
+    next_same_for : (k : ℕ) → next_for (engine_in m) n k ≡ next_for g n k
+    next_same_for k =
+        ap (λ z. next_for z n k) engine_is ∙ next_is bare n k q after of.registered running_bare
+        ∙ sym (next_is g n k q after of.registered running_g)
 
-      abbrev left : PlainEngine
-      left = record e { queries = set e.queries n gone; next = e.next + (count + 1); slots = e2.slots }
+    tells_same : with_updates (engine_in m) job.slots.items e.slots ≡ with_updates g job.slots.items e.slots
+    tells_same = updates_same (engine_in m) g job.slots.items e.slots (λ y i.
+        let r = below_are e n q p (length p.operators) y (subst (λ zs. IsIn zs y) listed i) in
+        subst (λ (z : Slot). next_for (engine_in m) z.query z.operator ≡ next_for g z.query z.operator) (sym r.1.1) (next_same_for r.0))
 
-      none_left : (k : ℕ) → slot_of left n k ≡ None
-      none_left k = ap (λ z. slot_in left n k z (remains_at left n)) of.registered ∙ ap (slot_in left n k (Some q)) (remains_here e n gone few)
+    module _ (w : EngineState) (told : w ≡ with_slots m (with_updates (engine_in m) job.slots.items m.slots)) where
+      has_slots : HasSlots (slot_of (record g { slots = e1.slots })) e1.slots
+      has_slots = subst (λ z. HasSlots (slot_of z) e1.slots) on.after.is on.after.good.slots
 
-      others_left : (j k : ℕ) → j ≢ n → slot_of left j k ≡ slot_of e j k
-      others_left j k ne =
-          ap (slot_in left j k (query_at e j)) (remains_there e n j gone ne)
-          ∙ same_slot_in e left.queries e.leases left.next e2.slots j k refl (query_at e j) (remains_at e j)
+      slots_then : w.slots ≡ e1.slots
+      slots_then =
+          ap (λ (z : EngineState). z.slots) told
+          ∙ ap (with_updates (engine_in m) job.slots.items) slots_before
+          ∙ tells_same
+          ∙ ap (λ ts. with_updates g ts e.slots) listed
+          ∙ same_slots (slot_of g) _ e1.slots (all_told e n q p after out.good of.registered of.running (e.next + count)) (told_as e n q p after out.good of.registered of.running (e.next + count) e1.slots has_slots)
 
-      module _ (w : EngineState) (stops : Stops n m w) where
-        slots_gone : w.slots ≡ e2.slots
-        slots_gone =
-            stops.slots ∙ ap (without_query n) slots_before
-            ∙ same_slots (slot_of left) (without_query n e.slots) e2.slots
-            (left_slots (slot_of e) (slot_of left) e.slots n out.good.slots (numbered e) none_left others_left)
-            (subst (λ z. HasSlots (slot_of z) e2.slots) after2.is after2.good.slots)
+      engine_then : engine_in w ≡ record e { queries = set here n (Running after); next = e.next + count; slots = w.slots }
+      engine_then =
+          ap engine_in told
+          ∙ ap (λ (z : PlainEngine). record z { slots = with_updates (engine_in m) job.slots.items m.slots }) engine_is
+          ∙ ap (λ ss. record bare { slots = ss }) (sym (ap (λ (z : EngineState). z.slots) told))
 
-        leases_gone : w.leases.items ≡ []
-        leases_gone = stops.leases ∙ ap (λ ls. filter (λ t. not (t.node.query == n)) ls) no_leases
+      readers_then : w.readers.items ≡ readers_of e1
+      readers_then =
+          ap (λ (z : EngineState). z.readers.items) told ∙ readers ∙ out.readers
+          ∙ ap (readers_from 0 e.machine.queries) (sym (map-set_same runs e.queries n (Running after) Dropped (sym (ap runs of.running))))
+          ∙ ap readers_of (sym on.after.is)
 
-        engine_gone : engine_in w ≡ record e { queries = set here n gone; next = e.next + (count + 1); slots = w.slots }
-        engine_gone =
-            ap engine_in stops.rest
-            ∙ ap (λ ls. record (engine_in m) { leases = map lease_of ls; slots = w.slots }) leases_gone
-            ∙ ap (λ (z : PlainEngine). record z { leases = []; slots = w.slots }) put_e
-            ∙ ap₂ (λ r k. record e { queries = set here n r; leases = []; next = e.next + k; slots = w.slots }) broke counts
-            ∙ ap (λ ls. record e { queries = set here n gone; leases = ls; next = e.next + (count + 1); slots = w.slots }) (sym returned)
-
-        readers_gone : w.readers.items ≡ readers_of e2
-        readers_gone =
-            stops.readers ∙ ap (λ rs. filter (λ (x : WindowReader). not (x.query == n)) rs) (readers ∙ out.readers)
-            ∙ readers_left n 0 n e.machine.queries (map runs e.queries) (omega arith)
-            ∙ ap (readers_from 0 e.machine.queries) (sym (map-set runs e.queries n gone))
-            ∙ ap readers_of (sym after2.is)
-
-        tried : HaveRunAny rows e (on.steps ++ FailedAny (failing e1 n q after on.after.good returned_on registered_on running_on rows fails_on) ∷ []) e2
-        tried = one_more_any rows e e1 e2 on.steps (FailedAny (failing e1 n q after on.after.good returned_on registered_on running_on rows fails_on)) on.run (fails_step e1 n q after on.after.good returned_on registered_on running_on rows fails_on)
-
-        pub home_broken : (e3 : PlainEngine) × (AreOut e3 rows rest w × HaveComeHome rows false e e3)
-        home_broken = (
-          e2,
-          (comes_home w gone (count + 1) e2 after2 counts refl engine_gone slots_gone leases_gone (ap (λ (z : EngineState). z.undropped) stops.rest ∙ undropped) readers_gone, (on.steps ++ FailedAny (failing e1 n q after on.after.good returned_on registered_on running_on rows fails_on) ∷ [], (tried, failed_behind on.steps (FailedAny (failing e1 n q after on.after.good returned_on registered_on running_on rows fails_on) ∷ []) refl))),
-        )
-
-    -- WHICHEVER IT DID
-    pub may_be_told : is_broken (remains_of job.remains) ≡ false → AllByRecursion (λ z. HasOperatorAt (engine_in m) z.query z.operator) job.slots.items
-    may_be_told lives = ⊎_elim
-        (λ h. may_change h.0 h.1)
-        (λ h. absurd (let bad : true ≡ false = sym (ap is_broken h.0) ∙ lives in cc))
-        done.end
-
-    pub comes_running : is_broken (remains_of job.remains) ≡ false → (w : EngineState) → w ≡ with_slots m (with_updates (engine_in m) job.slots.items m.slots) → (e2 : PlainEngine) × (AreOut e2 rows rest w × HaveComeHome rows true e e2)
-    comes_running lives w told = ⊎_elim
-        (λ h. home_runs h.0 h.1 w told)
-        (λ h. absurd (let bad : true ≡ false = sym (ap is_broken h.0) ∙ lives in cc))
-        done.end
-
-    pub comes_broken : is_broken (remains_of job.remains) ≡ true → (w : EngineState) → Stops n m w → (e2 : PlainEngine) × (AreOut e2 rows rest w × HaveComeHome rows false e e2)
-    comes_broken ends w stops = ⊎_elim
-        (λ h. absurd (let bad : false ≡ true = sym (ap is_broken h.0) ∙ ends in cc))
-        (λ h. home_broken h.0 h.1 h.2 w stops)
-        done.end
+      pub home_runs : (all : Bool) → all ≡ not job.stopped → (e2 : PlainEngine) × (AreOut e2 rows rest w × HaveComeHome rows all e e2)
+      home_runs all is = (
+        e1,
+        (
+          comes_home w (Running after) count e1 on.after done.counts refl engine_then slots_then (ap (λ (z : EngineState). z.leases.items) told ∙ no_leases) (ap (λ (z : EngineState). z.undropped) told ∙ undropped) readers_then,
+          came_home rows all job.stopped e e1 on.steps on.run (on.less ∙ sym done.stopped) is,
+        ),
+      )

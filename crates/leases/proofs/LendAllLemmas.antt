@@ -10,12 +10,12 @@ use Rattle.laws_queries.specs.Registrations.{HaveColumnNames}
 use Rattle.laws_engine.specs.Bounds.{HaveFewClosed}
 use Rattle.leases.specs.Alone.{MayRunAlone}
 use Rattle.leases.specs.Applied.{with_remains}
-use Rattle.leases.specs.ByQuery.{HaveComeHome, SomeHaveFailed, SomeWereDone}
+use Rattle.leases.specs.ByQuery.{HaveComeHome, SomeWereLess, SomeWereDone}
 use Rattle.leases.specs.Readers.{readers_of}
 use Rattle.leases.specs.Sound.{IsSound, is_gone}
 use Rattle.leases.specs.Undropped.{undropped_of}
 use Rattle.leases.specs.declared.registered.Registration.{Registration}
-use Rattle.leases.proofs.ByQueryLemmas.{done_on, failed_since, failed_then, failed_twice}
+use Rattle.leases.proofs.ByQueryLemmas.{done_on, less_since, less_then, less_twice}
 use Rattle.leases.specs.Jobs.{AreBrought, AreLent, AreNewJobs, AreOut, HasRunJob, HaveFewTurns, HaveNumbers, HaveOwnQueries, IsBare, IsBrought, IsDoneJob, IsJobOf, IsLentJob, IsNewJob, MayRunJob, out_of, placed}
 use Rattle.leases.specs.Passing.{slots_below}
 use Rattle.leases.specs.Shown.{engine_in}
@@ -212,9 +212,8 @@ module _ (old : EngineState) (sound : IsSound old) (returned : (engine_in old).l
   each_may i j lt is = may_run j (subst (IsLentJob start) (sym is) (at_place (IsLentJob start) js i j lt h.each))
 
   -- THEY HAVE RUN
-  brought_one : (quota : Quota) (j j2 : Job) → IsLentJob start j → HasRunJob s.streams s.registered.items quota j j2 → IsBrought start quota.rows (out_of j) j2
+  brought_one : (quota : Quota) (j j2 : Job) → IsLentJob start j → HasRunJob s.streams quota j j2 → IsBrought start quota.rows (out_of j) j2
   brought_one quota j j2 is ran =
-      let r = registered_here s.registered.items j.query is.of.query (ap (λ m. slice_get m.queries j.query) machine ∙ is.of.registered) in
       record {
         same = sym ran.query;
         of = record {
@@ -226,11 +225,10 @@ module _ (old : EngineState) (sound : IsSound old) (returned : (engine_in old).l
               (is.of.listed q p (ap (query_at start) (sym ran.query) ∙ here2) (ap (remains_at start) (sym ran.query) ∙ running));
         };
         was = is.has ∙ is.of.running;
-        done = subst (λ m. IsDoneJob m.streams is.of.query quota.rows is.of.plain j2) machine
-            (subst (λ z. IsDoneJob s.streams z quota.rows is.of.plain j2) r.1.1 (ran.done r.0 is.of.plain r.1.0 (is.has ∙ is.of.running)));
+        done = subst (λ m. IsDoneJob m.streams quota.rows is.of.plain j2) machine (ran.done is.of.plain (is.has ∙ is.of.running));
       }
 
-  brought_all : (quota : Quota) (xs ys : List Job) → length ys ≡ length xs → AllByRecursion (IsLentJob start) xs → ((i : ℕ) (d : Job) → i < length xs → HasRunJob s.streams s.registered.items quota (get_or xs i d) (get_or ys i d)) → AreBrought start quota.rows (map out_of xs) ys
+  brought_all : (quota : Quota) (xs ys : List Job) → length ys ≡ length xs → AllByRecursion (IsLentJob start) xs → ((i : ℕ) (d : Job) → i < length xs → HasRunJob s.streams quota (get_or xs i d) (get_or ys i d)) → AreBrought start quota.rows (map out_of xs) ys
   brought_all quota [] [] many each ran = tt
   brought_all quota [] (b ∷ ys) many each ran = absurd (omega (arith, many))
   brought_all quota (a ∷ xs) [] many each ran = absurd (omega (arith, many))
@@ -254,7 +252,7 @@ module _ (old : EngineState) (sound : IsSound old) (returned : (engine_in old).l
     own_of xs ys (omega (arith, many)) (λ i d lt. same (suc i) d (omega (arith, lt))) h.1,
   )
 
-  pub all_out : (quota : Quota) (js2 : List Job) → length js2 ≡ length js → ((i : ℕ) (d : Job) → i < length js → HasRunJob s.streams s.registered.items quota (slice_index_or js i d) (slice_index_or js2 i d)) → AreOut start quota.rows js2 s
+  pub all_out : (quota : Quota) (js2 : List Job) → length js2 ≡ length js → ((i : ℕ) (d : Job) → i < length js → HasRunJob s.streams quota (slice_index_or js i d) (slice_index_or js2 i d)) → AreOut start quota.rows js2 s
   all_out quota js2 many ran = record {
     good = sound.good;
     is = h.bare.is;
@@ -276,13 +274,13 @@ module _ (old : EngineState) (sound : IsSound old) (returned : (engine_in old).l
       none (t ∷ ts) e = absurd (cc)
 
   -- and none took more numbers than it may
-  few_turns : (quota : Quota) (xs ys : List Job) → length ys ≡ length xs → ((i : ℕ) (d : Job) → i < length xs → HasRunJob s.streams s.registered.items quota (get_or xs i d) (get_or ys i d)) → HaveFewTurns quota.turns ys
+  few_turns : (quota : Quota) (xs ys : List Job) → length ys ≡ length xs → ((i : ℕ) (d : Job) → i < length xs → HasRunJob s.streams quota (get_or xs i d) (get_or ys i d)) → HaveFewTurns quota.turns ys
   few_turns quota [] [] many ran = tt
   few_turns quota [] (b ∷ ys) many ran = absurd (omega (arith, many))
   few_turns quota (a ∷ xs) [] many ran = absurd (omega (arith, many))
   few_turns quota (a ∷ xs) (b ∷ ys) many ran = ((ran 0 a (omega arith)).most, few_turns quota xs ys (omega (arith, many)) (λ i d lt. ran (suc i) d (omega (arith, lt))))
 
-  pub all_few : (quota : Quota) (js2 : List Job) → length js2 ≡ length js → ((i : ℕ) (d : Job) → i < length js → HasRunJob s.streams s.registered.items quota (slice_index_or js i d) (slice_index_or js2 i d)) → HaveFewTurns quota.turns js2
+  pub all_few : (quota : Quota) (js2 : List Job) → length js2 ≡ length js → ((i : ℕ) (d : Job) → i < length js → HasRunJob s.streams quota (slice_index_or js i d) (slice_index_or js2 i d)) → HaveFewTurns quota.turns js2
   all_few quota js2 many ran = few_turns quota js js2 many ran
 
 -- ALL ARE HOME
@@ -310,13 +308,13 @@ home_sound e rows s out =
 -- ONE AFTER THE OTHER
 pub both_ran : (rows : ℕ) (b r : Bool) (e1 e2 e3 : PlainEngine) → r ≡ true → HaveComeHome rows b e1 e2 → HaveComeHome rows r e2 e3 → HaveComeHome rows b e1 e3
 both_ran rows true true e1 e2 e3 t one two = done_on rows e1 e2 e3 one two
-both_ran rows false true e1 e2 e3 t one two = failed_then rows e1 e2 e3 one two
+both_ran rows false true e1 e2 e3 t one two = less_then rows e1 e2 e3 one two
 both_ran rows b false e1 e2 e3 t one two = absurd (cc)
 
-pub one_broke : (rows : ℕ) (b r : Bool) (e1 e2 e3 : PlainEngine) → r ≡ false → HaveComeHome rows b e1 e2 → HaveComeHome rows r e2 e3 → SomeHaveFailed rows e1 e3
-one_broke rows true false e1 e2 e3 f one two = failed_since rows e1 e2 e3 one two
-one_broke rows false false e1 e2 e3 f one two = failed_twice rows e1 e2 e3 one two
-one_broke rows b true e1 e2 e3 f one two = absurd (cc)
+pub one_less : (rows : ℕ) (b r : Bool) (e1 e2 e3 : PlainEngine) → r ≡ false → HaveComeHome rows b e1 e2 → HaveComeHome rows r e2 e3 → SomeWereLess rows e1 e3
+one_less rows true false e1 e2 e3 f one two = less_since rows e1 e2 e3 one two
+one_less rows false false e1 e2 e3 f one two = less_twice rows e1 e2 e3 one two
+one_less rows b true e1 e2 e3 f one two = absurd (cc)
 
 abbrev pub HaveAll : List Job → EngineState → List Job → EngineState → Bool → Type 0
 HaveAll jobs old js m b = (e : PlainEngine) (rows : ℕ) → AreOut e rows jobs old → (e2 : PlainEngine) × (AreOut e2 rows js m × HaveComeHome rows b e e2)
@@ -332,11 +330,11 @@ module _ (jobs : List Job) (old m w : EngineState) (js rest : List Job) (job : J
       let c = home a.0 rows rest (subst (λ z. AreOut a.0 rows z m) popped a.1.0) in
       (c.0, (c.1.0, both_ran rows b r e a.0 c.0 t a.1.1 c.1.1))
 
-  pub all_broke : r ≡ false → HaveAll jobs old js m b → HaveAll jobs old rest w false
-  all_broke f h e rows out =
+  pub all_less : r ≡ false → HaveAll jobs old js m b → HaveAll jobs old rest w false
+  all_less f h e rows out =
       let a = h e rows out in
       let c = home a.0 rows rest (subst (λ z. AreOut a.0 rows z m) popped a.1.0) in
-      (c.0, (c.1.0, one_broke rows b r e a.0 c.0 f a.1.1 c.1.1))
+      (c.0, (c.1.0, one_less rows b r e a.0 c.0 f a.1.1 c.1.1))
 
 -- THE NUMBERS that their turns took
 abbrev pub TookFew : List Job → EngineState → List Job → EngineState → Type 0
@@ -376,11 +374,11 @@ ends_done jobs old m js b none t h e rows out =
     let same : engine_in m ≡ a.0 = home_all a.0 rows m (subst (λ z. AreOut a.0 rows z m) (none_left js none) a.1.0) in
     subst (SomeWereDone rows e) (sym same) (subst (λ z. HaveComeHome rows z e a.0) t a.1.1)
 
-pub ends_failed : (jobs : List Job) (old m : EngineState) (js : List Job) (b : Bool) → length js ≡ 0 → b ≡ false → HaveAll jobs old js m b → (e : PlainEngine) (rows : ℕ) → AreOut e rows jobs old → SomeHaveFailed rows e (engine_in m)
-ends_failed jobs old m js b none f h e rows out =
+pub ends_less : (jobs : List Job) (old m : EngineState) (js : List Job) (b : Bool) → length js ≡ 0 → b ≡ false → HaveAll jobs old js m b → (e : PlainEngine) (rows : ℕ) → AreOut e rows jobs old → SomeWereLess rows e (engine_in m)
+ends_less jobs old m js b none f h e rows out =
     let a = h e rows out in
     let same : engine_in m ≡ a.0 = home_all a.0 rows m (subst (λ z. AreOut a.0 rows z m) (none_left js none) a.1.0) in
-    subst (SomeHaveFailed rows e) (sym same) (subst (λ z. HaveComeHome rows z e a.0) f a.1.1)
+    subst (SomeWereLess rows e) (sym same) (subst (λ z. HaveComeHome rows z e a.0) f a.1.1)
 
 -- WHAT IS ASKED of each that is lent: its query is there
 pub lends_within : (old s : EngineState) (js : List Job) (k : ℕ) (d : Job) → k < length js → ArePartlyLent old js k s → (get_or js k d).query < length s.remains.items

@@ -27,7 +27,6 @@ mod StepLemmas
 mod InPlaceLemmas
 mod ToldLemmas
 mod StaysLemmas
-mod LastLemmas
 mod FedLemmas
 mod TurnsLemmas
 pub mod StatusLemmas

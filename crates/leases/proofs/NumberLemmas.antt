@@ -6,11 +6,11 @@ use Rattle.reference.specs.declared.fault.Fault.{Fault}
 use Rattle.reference.specs.declared.fault.Fault.TheVariants as fault
 use Rattle.reference.specs.declared.fault.Fault.TheVariants.{Query, BadName, NameTaken, BadColumns, TooMany, UnknownStream, UnknownQuery, BadWidth, ValueRange, InstantRange, Late, Backward, Leap, StreamFull, BadLimit, UnknownLease, Stranger, TooManyLeases, HistoryFull, OutOfMemory, Foreign}
 use Rattle.laws_engine.specs.Engines.{PlainEngine}
-use Rattle.leases.specs.Drains.{RanOutOfMemory, OneHasFailed, RunsTurns}
+use Rattle.leases.specs.Drains.{RanOutOfMemory, RunsTurns}
 use Rattle.leases.specs.Registering.{Registers}
 use Rattle.leases.specs.Takes.{Takes}
 use Rattle.leases.specs.declared.limits.TheConstants.{LEASE_NUMBERS}
-use Rattle.leases.proofs.DrainLemmas.{have_given}
+use Rattle.leases.proofs.DrainLemmas.{have_given, step_counts, turn_has_run}
 use Rattle.leases.proofs.WholeLemmas.{take_makes}
 
 -- none was given back
@@ -36,15 +36,11 @@ pub take_gives_none : {A : Type 0} (view : A → List (ℤ × Row)) (old : Plain
 take_gives_none view old n limit r new h = ⊎_elim (λ is. same_next old new (ap (λ e. e.next) is)) (λ is. same_next old new (ap (λ e. e.next) is)) (take_makes view old n limit r new h)
 
 -- A DRAIN gives some
-failed_gives : (rows : ℕ) (e1 e2 : PlainEngine) → OneHasFailed rows e1 e2 → HasGivenMore e1 e2
-failed_gives rows e1 e2 h =
-    let went : h.1.0.next ≡ e1.next + 1 = ap (λ e. e.next) h.1.1.0.after in
-    let broke : e2.next ≡ h.1.0.next = ap (λ e. e.next) h.1.1.1.1.1.1.1 in
-    omega (arith, went, broke)
-
 last_gives : (rows : ℕ) (e1 e2 : PlainEngine) → RanOutOfMemory rows e1 e2 → HasGivenMore e1 e2
 last_gives rows e1 e2 (inl h) = same_next e1 e2 (ap (λ e. e.next) h.2)
-last_gives rows e1 e2 (inr h) = failed_gives rows e1 e2 h
+last_gives rows e1 e2 (inr h) =
+    let one : e2.next ≡ e1.next + 1 = step_counts e1 e2 h.count (turn_has_run h.count e1 e2 h.ran) in
+    omega (arith, one)
 
 pub drain_gives : (old new : PlainEngine) (rows : ℕ) (r : Result ⊤ Fault) → RunsTurns old rows r new → HasGivenMore old new
 drain_gives old new rows (Ok u) h = have_given rows h.1.0 old new h.1.1

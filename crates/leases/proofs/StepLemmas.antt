@@ -1,5 +1,5 @@
 -- A turn that goes out and comes back in one step: the engine that has it out is nowhere kept, and the one after the step is what follows on that.
-use Rattle.std.proofs.Common.{◌≡◌, ◌≢◌, ◌<◌, ◌≤◌, ◌+◌, ◌++◌, ◌==◌, ◌||◌, ℕ, Bool, not, true, false, inl, inr, MatchOption, Option, Some, None, List, [], ◌∷◌, length, refl, sym, ap, ◌∙◌, subst, arith, eq-eqb}
+use Rattle.std.proofs.Common.{◌≡◌, ◌≢◌, ◌<◌, ◌≤◌, ◌+◌, ◌++◌, ◌==◌, ◌||◌, ℕ, Bool, true, false, inl, inr, MatchOption, Option, Some, None, List, [], ◌∷◌, length, refl, sym, ap, ◌∙◌, subst, arith, eq-eqb}
 use Rattle.std.specs.List.{list_any}
 use Rattle.op_queue.specs.declared.item.Item.TheVariants.{Tick}
 use Rattle.turn.specs.declared.excerpts.Excerpt.TheVariants.{Nothing}
@@ -8,18 +8,18 @@ use Rattle.plan.proofs.Lists.{by_test}
 use Rattle.reference.specs.Machine.{Registered}
 use Rattle.laws_queries.specs.Queries.{PlainQuery}
 use Rattle.query_runtime.specs.Turns.{wire_at}
-use Rattle.run_queue.specs.Slots.{changed, first_of, slot, with_next, without_query}
+use Rattle.run_queue.specs.Slots.{changed, first_of, slot, with_next}
 use Rattle.run_queue.specs.declared.slots.Slot.{Slot}
-use Rattle.laws_engine.specs.Calls.{IsOf, broken, of_others, others}
+use Rattle.laws_engine.specs.Calls.{IsOf, others}
 use Rattle.laws_engine.specs.Engines.{GoodEngine, HasSlots, IsIn, IsLease, Lease, PlainEngine, Running, is_leased, is_of, next_at, query_at, remains_at, slope_at, slot_at, slot_of}
 use Rattle.laws_engine.specs.Promises.{IsOfSteepest}
 use Rattle.laws_engine.proofs.BackLemmas.{same_plain, same_query, unequal}
 use Rattle.laws_engine.proofs.LeaseLemmas.{lease_good}
 use Rattle.laws_engine.proofs.PromiseLemmas.{first_in, keeps_its_promises, slot_is}
 use Rattle.laws_engine.proofs.TableLemmas.{same_slot_at, same_slot_in}
-use Rattle.leases.specs.Applied.{BothStand, Forgets, GivesNothing, HasEnded, HasTakenIn, HasTold, HasWiredOperators, IsAbove, IsBroken, IsOutAsIn, IsUpdated, MayTell, with_slot, without_turn}
+use Rattle.leases.specs.Applied.{BothStand, GivesNothing, HasEnded, HasTakenIn, HasTold, HasWiredOperators, IsAbove, IsOutAsIn, IsUpdated, MayTell, with_slot, without_turn}
 use Rattle.leases.specs.Asked.{HasOperatorAt}
-use Rattle.leases.specs.Drains.{OneHasFailed, OneHasRun, Ran}
+use Rattle.leases.specs.Drains.{OneTurnHasRun}
 use Rattle.leases.specs.Leasing.{IsTurnOn}
 use Rattle.leases.specs.Shown.{engine_in}
 use Rattle.leases.specs.Sound.{IsSound}
@@ -30,12 +30,10 @@ use Rattle.leases.specs.declared.state.EngineState.{EngineState}
 use Rattle.leases.proofs.DrainLemmas as drain
 use Rattle.leases.proofs.FinishBackLemmas.{AreSteps, has_come_back, sound_ended, tells_here, tells_over}
 use Rattle.leases.proofs.FinishLemmas.{below_of, is_at, to_later, wired_operators}
-use Rattle.leases.proofs.FinishSoundLemmas.{sound_broken}
 use Rattle.leases.proofs.LeaseLemmas.{any_last, out_of, some_slot, turn_out}
-use Rattle.leases.proofs.LeaveLemmas.{fewer}
 use Rattle.leases.proofs.LookLemmas.{asks_on, tells_on}
 use Rattle.leases.proofs.StandLemmas.{over_stands, stands_in}
-use Rattle.leases.proofs.UpdateLemmas.{changed_again, changed_leaves}
+use Rattle.leases.proofs.UpdateLemmas.{changed_again}
 
 -- A NUMBER is counted
 abbrev pub counted : EngineState → EngineState
@@ -161,29 +159,6 @@ module _ (old : EngineState) (s : Slot) (rows : ℕ) (t : Turn) (sound : IsSound
   few_left : length (others d.number e1.leases) ≤ length (engine_in old).leases
   few_left = let same : length (others d.number e1.leases) ≡ length (engine_in old).leases = ap (λ ls. length ls) others_left in omega (arith, same)
 
-  -- ITS QUERY BREAKS
-  module _ (new : EngineState) (broke : IsBroken (engine_in (counted old)) d.query (engine_in new)) where
-    slots_leave : without_query d.query old.slots ≡ without_query d.query e1.slots
-    slots_leave = subst (λ n. without_query n old.slots ≡ without_query n e1.slots) query_is (sym (changed_leaves (engine_in old) s sound.good there))
-
-    turns_end : of_others d.query e1.leases ≡ of_others d.query (engine_in old).leases
-    turns_end = drain.last_goes (engine_in old).leases d
-
-    is_broken : engine_in new ≡ broken e1 d.query out.1.0
-    is_broken =
-        broke out.1.0 out.1.1.of.running
-        ∙ ap (λ ls. record (broken (engine_in (counted old)) d.query out.1.0) { leases = ls }) (sym turns_end)
-        ∙ ap (λ ss. record (broken e1 d.query out.1.0) { slots = ss }) slots_leave
-
-    pub broke_one : OneHasFailed rows (engine_in old) (engine_in new)
-    broke_one = (t, (e1, (goes, (out.1.1.out, (out.0, (out.1.0, (out.1.1.of, is_broken)))))))
-
-    pub broke_sound : Forgets d.query (counted old) new → IsSound new
-    broke_sound r =
-        let few : length (of_others d.query e1.leases) ≤ length (engine_in old).leases =
-        subst (λ ls. length ls ≤ length (engine_in old).leases) (sym turns_end) (fewer (λ l. not (l.query == d.query)) (engine_in old).leases) in
-        sound_broken (counted old) new e1.leases e1.slots d out.0 out.1.0 (counted_sound old sound numbers) good out.1.1 r few is_broken
-
   -- ITS QUERY TAKES IT
   module _ (above : Option Slot) (over : IsAbove (engine_in old) s.query s.operator above) (e2 : PlainEngine) (applied : HasTakenIn (engine_in (counted old)) d e2) where
     -- the engine that has it out still, and the one where it is out no more
@@ -252,10 +227,10 @@ module _ (old : EngineState) (s : Slot) (rows : ℕ) (t : Turn) (sound : IsSound
     ended : (new : PlainEngine) → HasTold e2 s above new → HasEnded still d.number (with_next s None) above new
     ended new h = (h.0, (told_once h.0 h.1.0, h.1.1))
 
-    pub ran : (new : PlainEngine) → HasTold e2 s above new → OneHasRun rows (engine_in old) new
+    pub ran : (new : PlainEngine) → HasTold e2 s above new → OneTurnHasRun rows (engine_in old) new
     ran new h =
         let home = has_come_back e1 d s.query s.operator d.number (with_next s None) above still good out steps new (ended new h) in
-        (Ran t, (e1, (goes, (out.1.1.out, (home.0, (home.1.0, (home.1.1.0, home.1.1.1.1)))))))
+        (t, (e1, (goes, (out.1.1.out, (home.0, (home.1.0, (home.1.1.0, home.1.1.1.1)))))))
 
     pub ran_sound : (new : EngineState) → HasTold e2 s above (engine_in new) → GivesNothing (counted old) new → IsSound new
     ran_sound new h r =

@@ -1,13 +1,12 @@
 -- Slots that are told once behind several turns, and in a list in which they are told behind each turn: the last counts.
-use Rattle.std.proofs.Common.{◌≡◌, ◌≢◌, ℕ, ◌==◌, true, false, cond, inl, inr, ◌⊎◌, ⊎_elim, MatchOption, Option, Some, None, List, [], ◌∷◌, refl, sym, ap, ◌∙◌, eq-eqb}
+use Rattle.std.proofs.Common.{◌≡◌, ◌≢◌, ℕ, inl, inr, ◌⊎◌, ⊎_elim, MatchOption, Option, Some, None, List, [], ◌∷◌, refl, sym, ap, ◌∙◌}
 use Rattle.std.specs.Prelude.{⊤}
 use Rattle.std.specs.Option.{option_to_list}
 use Rattle.column.specs.declared.batch.Side.{Side}
-use Rattle.run_queue.specs.Slots.{changed, with_next, without_query}
+use Rattle.run_queue.specs.Slots.{changed, with_next}
 use Rattle.run_queue.specs.declared.slots.Slot.{Slot}
 use Rattle.laws_engine.specs.Engines.{HasSlots, IsIn, PlainEngine}
-use Rattle.laws_engine.proofs.BackLemmas.{unequal}
-use Rattle.laws_engine.proofs.SlotLemmas.{AreNumbered, changed_slots, left_slots, numbers}
+use Rattle.laws_engine.proofs.SlotLemmas.{AreNumbered, changed_slots, numbers}
 use Rattle.laws_engine.proofs.TableLemmas.{updated, updated_here, updated_numbered, updated_there}
 use Rattle.leases.specs.Readers.{next_for, with_updates}
 use Rattle.leases.specs.Told.{told_above, told_slot}
@@ -39,16 +38,6 @@ module _ (table : ℕ → ℕ → Option Slot) (slots : List Slot) (s : Slot) (h
       same_slots (one_table y) (changed (with_next s x) y (changed s x slots)) (changed s y slots)
       (changed_slots (one_table x) (one_table y) (changed s x slots) (with_next s x) y (one_slots x) (one_numbered x) (one_here x) (one_here y) (λ n k ne. one_there y n k ne ∙ sym (one_there x n k ne)))
       (one_slots y)
-
-  -- or leaves with the slots of its query
-  pub one_leaves : (x : Option (Side × ℕ)) → without_query s.query (changed s x slots) ≡ without_query s.query slots
-  one_leaves x =
-      let left : ℕ → ℕ → Option Slot = λ n k. cond (n == s.query) None (table n k) in
-      let gone : (k : ℕ) → left s.query k ≡ None = λ k. let t : (s.query == s.query) ≡ true = eq-eqb s.query s.query refl in rw t refl in
-      let stay : (n k : ℕ) → n ≢ s.query → left n k ≡ table n k = λ n k ne. let f : (n == s.query) ≡ false = unequal n s.query ne in rw f refl in
-      same_slots left (without_query s.query (changed s x slots)) (without_query s.query slots)
-      (left_slots (one_table x) left (changed s x slots) s.query (one_slots x) (one_numbered x) gone (λ n k ne. stay n k ne ∙ sym (one_there x n k (inl ne))))
-      (left_slots table left slots s.query has named gone stay)
 
   -- AND ANOTHER of another operator
   module _ (a : Slot) (over : table a.query a.operator ≡ Some a) (apart : a.operator ≢ s.operator) where
@@ -112,16 +101,6 @@ module _ (table : ℕ → ℕ → Option Slot) (slots : List Slot) (s : Slot) (h
         (mid_there x y u a.query a.operator (inr apart) ∙ two_over x y) (two_over u v) (last_there x y u v))
         (two_slots u v)
 
-    pub two_leave : (x y : Option (Side × ℕ)) → a.query ≡ s.query → without_query s.query (changed a y (changed s x slots)) ≡ without_query s.query slots
-    two_leave x y same =
-        let left : ℕ → ℕ → Option Slot = λ n k. cond (n == s.query) None (table n k) in
-        let gone : (k : ℕ) → left s.query k ≡ None = λ k. let t : (s.query == s.query) ≡ true = eq-eqb s.query s.query refl in rw t refl in
-        let stay : (n k : ℕ) → n ≢ s.query → left n k ≡ table n k = λ n k ne. let f : (n == s.query) ≡ false = unequal n s.query ne in rw f refl in
-        same_slots left (without_query s.query (changed a y (changed s x slots))) (without_query s.query slots)
-        (left_slots (two_table x y) left (changed a y (changed s x slots)) s.query (two_slots x y) (two_numbered x y) gone
-        (λ n k ne. stay n k ne ∙ sym (two_there x y n k (inl (λ e. ne (e ∙ same))) ∙ one_there x n k (inl ne))))
-        (left_slots table left slots s.query has named gone stay)
-
 -- THE SLOT OF AN OPERATOR, and that of the one above, if there is one, stand in the list
 pub record AreThere (table : ℕ → ℕ → Option Slot) (slots : List Slot) (s : Slot) (above : Option Slot) : Type 0 where
   pub has : HasSlots table slots
@@ -136,11 +115,6 @@ module _ (table : ℕ → ℕ → Option Slot) (slots : List Slot) (s : Slot) wh
   told_again e1 e2 None h = one_again table slots s h.has h.named h.here (next_for e1 s.query s.operator) (next_for e2 s.query s.operator)
   told_again e1 e2 (Some a) h =
       two_again table slots s h.has h.named h.here a h.over.0 h.over.1 (next_for e1 s.query s.operator) (next_for e1 a.query a.operator) (next_for e2 s.query s.operator) (next_for e2 a.query a.operator)
-
-  -- or leaving
-  pub told_leave : (e : PlainEngine) (above : Option Slot) → AreThere table slots s above → without_query s.query (with_updates e (s ∷ option_to_list above) slots) ≡ without_query s.query slots
-  told_leave e None h = one_leaves table slots s h.has h.named h.here (next_for e s.query s.operator)
-  told_leave e (Some a) h = two_leave table slots s h.has h.named h.here a h.over.0 h.over.1 (next_for e s.query s.operator) (next_for e a.query a.operator) h.over.2
 
 -- WHAT STANDS IN THE LIST THEN: the two as they are told, and each other one as it stood
 pub record IsAnother (slots : List Slot) (s t : Slot) : Type 0 where

@@ -1,6 +1,7 @@
 -- Turns of the first slot that run one after the other, while the slots wait to be told: with these told, each is a turn of the first slot.
 use Rattle.std.proofs.Common.{◌≡◌, ◌≢◌, ◌<◌, ◌≤◌, ◌+◌, ℕ, Bool, true, false, not, cond, nat_le, ◌&&◌, ◌||◌, inl, inr, ◌⊎◌, ⊎_elim, is_none, is_some, unwrap_or, MatchOption, Option, Some, None, List, [], ◌∷◌, length, refl, sym, ap, ap₂, ◌∙◌, subst, arith, eqb-true, leb-true}
-use Rattle.std.specs.Prelude.{⊤, get_or, max}
+use Rattle.std.specs.Prelude.{⊤}
+use Rattle.std.proofs.lemmas.Bool.{le-leb}
 use Rattle.std.specs.Option.{option_to_list}
 use Rattle.std.specs.Ordering.{is_gt}
 use Rattle.std.specs.declared.cmp.Ordering.TheVariants.{Less, Equal}
@@ -19,47 +20,42 @@ use Rattle.operators.specs.declared.runs.Refused.TheVariants.{Before, Within}
 use Rattle.names.specs.Faults as faults
 use Rattle.plan.proofs.Lists.{by_test}
 use Rattle.reference.specs.Machine.{Registered, Stream}
+use Rattle.reference.specs.declared.fault.Fault.{Fault}
 use Rattle.reference.specs.declared.fault.Fault.TheVariants.{BadLimit, TooManyLeases}
 use Rattle.reference.specs.declared.limits.TheConstants.{MAX_TURN}
-use Rattle.reference.specs.Opening.{all_instants}
-use Rattle.laws_dataflow.specs.Queries as marks
 use Rattle.laws_queries.specs.Queries.{PlainQuery, change_at_first, log_at, operator_at}
 use Rattle.laws_queries.specs.Steps.{IsFirst, outs_at_first}
 use Rattle.query_runtime.specs.Turns.{CanPut, HasFinished, HasPut, log_of, wire_at}
-use Rattle.run_queue.specs.Slots.{changed, first_of, goes_on, slot, slot_cmp, with_next, without_query}
+use Rattle.run_queue.specs.Slots.{changed, first_of, goes_on, slot, slot_cmp, with_next}
 use Rattle.run_queue.specs.declared.slots.Slot.{Slot}
 use Rattle.run_queue.proofs.StandLemmas.{changed_nothing}
-use Rattle.laws_engine.specs.Calls.{IsOf, broken_at}
-use Rattle.laws_engine.specs.Engines.{IsIn, Lease, PlainEngine, Running, is_leased, next_at, query_at, remains_at, slope_at, slot_at, slot_of, upto_at}
+use Rattle.laws_engine.specs.Calls.{IsOf}
+use Rattle.laws_engine.specs.Engines.{IsIn, Lease, PlainEngine, Running, is_leased, next_at, query_at, remains_at, slope_at, slot_at, slot_of}
 use Rattle.laws_engine.proofs.BackLemmas.{numbered, remains_here, same_plain, same_query}
 use Rattle.laws_engine.proofs.PromiseLemmas.{first_in, is_slot, slot_is}
-use Rattle.leases.specs.Applied.{BothStand, Forgets, GivesNothing, HasTold, IsAbove, IsBrokenAt, IsUpdated, MayTell, with_remains}
-use Rattle.leases.specs.Asked.{HasOperatorAt, IsRunningAt}
-use Rattle.leases.specs.Drains.{RanOutAfterTurns, RanOutBelow, OneHasRun, OneOrMoreHaveRun, SomeHaveRun}
+use Rattle.leases.specs.Applied.{BothStand, GivesNothing, HasTold, IsAbove, IsUpdated, MayTell, with_remains}
+use Rattle.leases.specs.Asked.{HasOperatorAt}
+use Rattle.leases.specs.Drains.{OneHasRun, OneOrMoreHaveRun, OneTurnHasRun, RanOutAfterTurns, RanOutBelow, RanOutOfMemory, SomeHaveRun}
 use Rattle.leases.specs.Readers.{next_for, with_slots, with_update, with_updates}
-use Rattle.leases.specs.Runs.{HasLast, HasRunIn, HasRunOn, HasStoppedIn, MayRunIn, last_of}
-use Rattle.leases.specs.Forgets.{IsMarkable}
+use Rattle.leases.specs.Runs.{HasRunIn, HasRunOn, HasStoppedIn, MayRunIn}
 use Rattle.leases.specs.Shown.{engine_in}
 use Rattle.leases.specs.Sound.{IsSound}
 use Rattle.leases.specs.Told.{GoesOn, IsNoSteeper, MayTellBoth, told, told_above, told_slot, told_slots, told_state}
 use Rattle.leases.specs.Turns.{lease_fault}
 use Rattle.leases.specs.declared.limits.TheConstants.{LEASE_NUMBERS, MAX_LEASES}
-use Rattle.leases.specs.declared.registered.Registration.{Registration}
 use Rattle.leases.specs.declared.state.EngineState.{EngineState}
 use Rattle.leases.proofs.BeatLemmas.{next_is}
-use Rattle.leases.proofs.DrainLemmas.{more_run, none_run}
+use Rattle.leases.proofs.DrainLemmas.{more_run, none_run, turn_has_run}
 use Rattle.leases.proofs.FedLemmas.{HasNextOrAt, StartAt, item_at, outs_start, ready_fed}
 use Rattle.leases.proofs.FinishLemmas.{below_of, to_later}
 use Rattle.leases.proofs.InPlaceLemmas as one
-use Rattle.leases.proofs.InPlaceLemmas.{given, sound_as, stopped_as}
+use Rattle.leases.proofs.InPlaceLemmas.{given, sound_as, stopped_as, stopped_less}
 use Rattle.leases.proofs.LeaseLemmas.{first_runs}
 use Rattle.leases.proofs.LookLemmas.{asks_on}
-use Rattle.leases.proofs.LastLemmas.{last_reaches, last_small, last_still, registration_is}
-use Rattle.leases.proofs.MarkLemmas.{has_mark}
 use Rattle.leases.proofs.StandLemmas.{stands_in}
 use Rattle.leases.proofs.StaysLemmas.{above_no_earlier, before_above, behind, comes_first, same_place}
 use Rattle.leases.proofs.StepLemmas.{both_stand, may_look_here, may_look_over}
-use Rattle.leases.proofs.ToldLemmas.{AreThere, IsToldAbove, above_in, told_again, told_from, told_in, told_leave}
+use Rattle.leases.proofs.ToldLemmas.{AreThere, IsToldAbove, above_in, told_again, told_from, told_in}
 
 -- WHAT AN OPERATOR MAY TAKE, by its number and by its query
 looked : (e : PlainEngine) (n k : ℕ) (next : Option (Side × ℕ)) → HasOperatorAt e n k → ((q : Registered) (p : PlainQuery) → query_at e n ≡ Some q → remains_at e n ≡ Running p → next ≡ next_at e n q p k) → next ≡ next_for e n k
@@ -126,6 +122,26 @@ allowed_again e e2 rows s allowed first same numbers =
     nothing : (b : Bool) → faults.first_of ((false, BadLimit) ∷ (b && (false || false), TooManyLeases) ∷ []) ≡ None
     nothing true = refl
     nothing false = refl
+
+-- and one of fewer rows may
+first_none : (bad : Bool) (rest : List (Bool × Fault)) → faults.first_of ((bad, BadLimit) ∷ rest) ≡ None → (bad ≡ false) × (faults.first_of rest ≡ None)
+first_none true rest h = absurd (cc)
+first_none false rest h = (refl, h)
+
+right_of : (a b : Bool) → not (a && b) ≡ false → b ≡ true
+right_of true true h = refl
+right_of true false h = absurd (cc)
+right_of false b h = absurd (cc)
+
+in_range : (n rows : ℕ) → 0 < n → n < rows → not (nat_le 1 rows && nat_le rows MAX_TURN) ≡ false → not (nat_le 1 n && nat_le n MAX_TURN) ≡ false
+in_range n rows some fewer fine =
+    let le : rows ≤ MAX_TURN = leb-true rows MAX_TURN (right_of (nat_le 1 rows) (nat_le rows MAX_TURN) fine) in
+    ap₂ (λ a b. not (a && b)) (le-leb 1 n (omega (arith, some))) (le-leb n MAX_TURN (omega (arith, fewer, le)))
+
+allowed_fewer : (e : PlainEngine) (n rows : ℕ) → 0 < n → n < rows → lease_fault e rows ≡ None → lease_fault e n ≡ None
+allowed_fewer e n rows some fewer h =
+    let was = first_none (not (nat_le 1 rows && nat_le rows MAX_TURN)) ((is_some (first_of e.slots) && (nat_le MAX_LEASES (length e.leases) || nat_le LEASE_NUMBERS e.next), TooManyLeases) ∷ []) h in
+    ap (λ b. faults.first_of ((b, BadLimit) ∷ (is_some (first_of e.slots) && (nat_le MAX_LEASES (length e.leases) || nat_le LEASE_NUMBERS e.next), TooManyLeases) ∷ [])) (in_range n rows some fewer was.0) ∙ was.1
 
 -- some lease of a slot's operator
 abbrev any_of : Slot → Lease
@@ -297,8 +313,8 @@ module _ {start now : EngineState} {s : Slot} {above : Option Slot} {rows : ℕ}
   may_tell_above None h = tt
   may_tell_above (Some a) h = asks_on (engine_in t) e.leases e.next e.slots a.query a.operator h.asked
 
-  -- IT HAS RUN
-  module _ {m : EngineState} (rest : GivesNothing now m) (run : HasRunIn e went rows (engine_in m)) where
+  -- IT HAS RUN, of as many rows or of fewer
+  module _ {m : EngineState} {n : ℕ} (rest : GivesNothing now m) (allowed : lease_fault (engine_in t) n ≡ None) (run : HasRunIn e went n (engine_in m)) where
     abbrev mt : EngineState
     mt = with_slots m t.slots
 
@@ -308,13 +324,13 @@ module _ {start now : EngineState} {s : Slot} {above : Option Slot} {rows : ℕ}
     abbrev e2 : PlainEngine
     e2 = engine_in m2
 
-    ran_here : HasRunIn e turn rows (engine_in m)
-    ran_here = subst (λ z. HasRunIn e z rows (engine_in m)) r.turn run
+    ran_here : HasRunIn e turn n (engine_in m)
+    ran_here = subst (λ z. HasRunIn e z n (engine_in m)) r.turn run
 
-    ran_told : HasRunIn (engine_in t) turn rows (engine_in mt)
+    ran_told : HasRunIn (engine_in t) turn n (engine_in mt)
     ran_told p0 is = let h = ran_here p0 is in (h.0, (h.1.0, ap (λ (z : PlainEngine). record z { slots = t.slots }) h.1.1))
 
-    took : (p2 : PlainQuery) × (HasRunOn e.machine.streams p turn rows p2 × (engine_in m ≡ with_remains e s.query (Running p2)))
+    took : (p2 : PlainQuery) × (HasRunOn e.machine.streams p turn n p2 × (engine_in m ≡ with_remains e s.query (Running p2)))
     took = ran_here p running
 
     slots_wait : m.slots ≡ start.slots
@@ -332,18 +348,18 @@ module _ {start now : EngineState} {s : Slot} {above : Option Slot} {rows : ℕ}
         subst (λ ss. HasTold (engine_in (given mt now.next)) turn over (record e2 { slots = ss })) tells_again
         (tells (engine_in (given mt now.next)) turn over)
 
-    one_ran : OneHasRun rows (told e s above) (told e2 s above)
-    one_ran = one.has_run t turn rows r.sound r.first r.allowed r.numbers mt ran_told over r.over (told e2 s above) has_told
+    one_ran : OneTurnHasRun n (told e s above) (told e2 s above)
+    one_ran = one.has_run t turn n r.sound r.first allowed r.numbers mt ran_told over r.over (told e2 s above) has_told
 
     -- it is sound then, and may be told
     pub sound_then : IsSound (told_state m2 s above)
     sound_then =
-        one.run_sound t turn rows r.sound r.first r.allowed r.numbers mt ran_told over r.over (told_state m2 s above) has_told
+        one.run_sound t turn n r.sound r.first allowed r.numbers mt ran_told over r.over (told_state m2 s above) has_told
         (record { undropped = rest.undropped; readers = rest.readers; leases = rest.leases })
         (record { undropped = refl; readers = refl; leases = λ g i. i })
 
     tells_here_then : HasOperatorAt e2 s.query s.operator
-    tells_here_then = asks_on (engine_in (given mt now.next)) e2.leases e2.next e2.slots s.query s.operator (one.tells_here t turn rows r.sound r.first r.allowed r.numbers mt ran_told over r.over)
+    tells_here_then = asks_on (engine_in (given mt now.next)) e2.leases e2.next e2.slots s.query s.operator (one.tells_here t turn n r.sound r.first allowed r.numbers mt ran_told over r.over)
 
     tell_above_then : (o : Option Slot) → MayTell (engine_in (given mt now.next)) (told_above e o) → MayTell e2 o
     tell_above_then None h = tt
@@ -352,12 +368,9 @@ module _ {start now : EngineState} {s : Slot} {above : Option Slot} {rows : ℕ}
     pub may_tell_then : MayTellBoth m2 s above
     may_tell_then = record {
       here = tells_here_then;
-      over = tell_above_then above (one.tells_over t turn rows r.sound r.first r.allowed r.numbers mt ran_told over r.over);
+      over = tell_above_then above (one.tells_over t turn n r.sound r.first allowed r.numbers mt ran_told over r.over);
       stand = subst (λ ss. BothStand ss s above) (sym slots_wait) both;
     }
-
-    pub ran_then : OneOrMoreHaveRun rows (engine_in start) (told e2 s above)
-    ran_then = (told e s above, (r.ran, one_ran))
 
     -- THE QUERY that took it
     abbrev p2 : PlainQuery
@@ -374,16 +387,6 @@ module _ {start now : EngineState} {s : Slot} {above : Option Slot} {rows : ℕ}
 
     leases_then : e2.leases ≡ e.leases
     leases_then = ap (λ (z : PlainEngine). z.leases) took.1.1
-
-    -- the last tick of its root is another only if it is the root's
-    last_by : (o : Option Slot) (last new : Option ℕ) → MatchOption (told_above e o) (length p.operators ≤ s.operator + 1) (λ a. (s.operator + 1 < length p.operators) × (a ≡ slot_at (engine_in t) s.query q p (wire_at p s.operator).to))
-        → HasLast e s.query last → MatchOption o (HasLast e2 s.query new) (λ a. new ≡ last) → HasLast e2 s.query new
-    last_by None last new over_it had h p0 is = h p0 is
-    last_by (Some a) last new over_it had h p0 is =
-        h ∙ had p running ∙ sym (last_still e.machine.streams p p2 turn rows took.1.0 over_it.0) ∙ ap last_of (same_plain (sym running_then ∙ is))
-
-    pub last_then : {last new : Option ℕ} → HasLast e s.query last → MatchOption above (HasLast e2 s.query new) (λ a. new ≡ last) → HasLast e2 s.query new
-    last_then {last} {new} = last_by above last new (r.over q p top.1.1.registered top.1.1.running)
 
     -- the operator above stands where it stood
     over_there : (o : Option Slot) → MatchOption (told_above e o) (length p.operators ≤ s.operator + 1) (λ a. (s.operator + 1 < length p.operators) × (a ≡ slot_at (engine_in t) s.query q p (wire_at p s.operator).to))
@@ -459,7 +462,7 @@ module _ {start now : EngineState} {s : Slot} {above : Option Slot} {rows : ℕ}
         (subst (λ j. HasNextOrAt turn.instant (next_for e s.query j) (next_for e2 s.query j)) (sym to) here)
 
     -- IT GOES ON: there is something of the same instant, and the slot above is no steeper
-    module _ (x : Side × ℕ) (next : next_for e2 s.query s.operator ≡ Some x) (at : x.1 ≡ s.instant) (stays : IsNoSteeper above s) (numbers : m2.next < LEASE_NUMBERS) where
+    module _ (all : SomeHaveRun rows (engine_in start) (told e2 s above)) (x : Side × ℕ) (next : next_for e2 s.query s.operator ≡ Some x) (at : x.1 ≡ s.instant) (stays : IsNoSteeper above s) (numbers : m2.next < LEASE_NUMBERS) where
       start_busy : s.is_idle ≡ false
       start_busy = busy r.look
 
@@ -530,15 +533,26 @@ module _ {start now : EngineState} {s : Slot} {above : Option Slot} {rows : ℕ}
         over = over_then;
         allowed = allowed_again (told e s above) (told e2 s above) rows turn r.allowed r.first leases_then numbers;
         numbers = numbers;
-        ran = more_run rows (engine_in start) (told e s above) (told e2 s above) r.ran one_ran;
+        ran = all;
       }
 
-    pub goes_again : (next : Option (Side × ℕ)) (stays : Bool) (until : ℕ) (new : Slot) → next ≡ next_for e2 s.query s.operator → GoesOn m2 s next stays until → until ≤ LEASE_NUMBERS → (stays ≡ true → IsNoSteeper above s)
+    pub goes_again : SomeHaveRun rows (engine_in start) (told e2 s above) → (next : Option (Side × ℕ)) (stays : Bool) (until : ℕ) (new : Slot) → next ≡ next_for e2 s.query s.operator → GoesOn m2 s next stays until → until ≤ LEASE_NUMBERS → (stays ≡ true → IsNoSteeper above s)
         → new ≡ with_next s next → AreRunning start m2 s above rows new
-    goes_again next stays until new same goes few flat is =
+    goes_again all next stays until new same goes few flat is =
         let with = goes_with s next goes.same in
         let left : m2.next < until = goes.numbers in
-        runs_on with.0 (sym same ∙ with.1.0) with.1.1 (flat goes.first) (omega (arith, left, few)) new (is ∙ ap (with_next s) same)
+        runs_on all with.0 (sym same ∙ with.1.0) with.1.1 (flat goes.first) (omega (arith, left, few)) new (is ∙ ap (with_next s) same)
+
+  -- where it had as many rows as it might, the turns go on
+  module _ {m : EngineState} (rest : GivesNothing now m) (run : HasRunIn e went rows (engine_in m)) where
+    one_then : OneHasRun rows (told e s above) (told (engine_in (given m now.next)) s above)
+    one_then = turn_has_run rows (told e s above) (told (engine_in (given m now.next)) s above) (one_ran rest r.allowed run)
+
+    pub ran_then : OneOrMoreHaveRun rows (engine_in start) (told (engine_in (given m now.next)) s above)
+    ran_then = (told e s above, (r.ran, one_then))
+
+    pub all_then : SomeHaveRun rows (engine_in start) (told (engine_in (given m now.next)) s above)
+    all_then = more_run rows (engine_in start) (told e s above) (told (engine_in (given m now.next)) s above) r.ran one_then
 
   -- IT WAS REFUSED MEMORY before it took anything: with the slots told all is as it was told
   module _ {m : EngineState} (rest : GivesNothing now m) {refused : Refused} (is_before : refused ≡ Before) (stopped : HasStoppedIn refused e went rows (engine_in m)) where
@@ -567,70 +581,34 @@ module _ {start now : EngineState} {s : Slot} {above : Option Slot} {rows : ℕ}
     pub before_sound : {new : EngineState} → new ≡ told_state m s above → IsSound new
     before_sound {new} is = sound_as t new r.sound (told_before new is) (subst (GivesNothing t) (sym is) (record { undropped = rest.undropped; readers = rest.readers; leases = rest.leases }))
 
-  -- or with an item in hand: its query breaks
+  -- or within: the turn had fewer rows
   module _ {m : EngineState} (rest : GivesNothing now m) {refused : Refused} (is_within : refused ≡ Within) (stopped : HasStoppedIn refused e went rows (engine_in m)) where
-    stopped_here : HasStoppedIn Within e turn rows (engine_in m)
-    stopped_here = stopped_turn refused Within e went turn rows (engine_in m) is_within r.turn stopped
+    less : (n : ℕ) × ((0 < n) × (n < rows) × HasRunIn e went n (engine_in m))
+    less = stopped_less e (engine_in m) went rows p (ap (λ (z : Slot). remains_at e z.query) r.turn ∙ running) (subst (λ z. HasStoppedIn z e went rows (engine_in m)) is_within stopped)
 
-    abbrev mw : EngineState
-    mw = with_slots m t.slots
+    allowed_less : lease_fault (engine_in t) less.0 ≡ None
+    allowed_less = allowed_fewer (engine_in t) less.0 rows less.1.0 less.1.1 r.allowed
 
-    stopped_told : HasStoppedIn Within (engine_in t) turn rows (engine_in mw)
-    stopped_told p0 is = let h = stopped_here p0 is in (h.0, (h.1.0, ap (λ (z : PlainEngine). record z { slots = t.slots }) h.1.1))
+    pub may_tell_less : MayTellBoth (given m now.next) s above
+    may_tell_less = may_tell_then rest allowed_less less.1.2
 
-    pub may_break : (n : ℕ) → n ≡ s.query → IsRunningAt (engine_in (given m now.next)) n
-    may_break n sn =
-        subst (IsRunningAt (engine_in (given m now.next))) (sym sn)
-        (one.may_break t turn rows r.sound r.first r.allowed r.numbers mw stopped_told)
+    out_less : {new : EngineState} → new ≡ told_state (given m now.next) s above → RanOutOfMemory rows (told e s above) (engine_in new)
+    out_less {new} is =
+        inr (record {
+          count = less.0;
+          some = less.1.0;
+          fewer = less.1.1;
+          ran = subst (λ (z : EngineState). OneTurnHasRun less.0 (told e s above) (engine_in z)) (sym is) (one_ran rest allowed_less less.1.2);
+        })
 
-    -- its query is as it was registered, and has its mark
-    same_machine : (engine_in m).machine ≡ e.machine
-    same_machine = ap (λ (z : PlainEngine). z.machine) (stopped_here p running).1.1
+    pub wanted_within : {new : EngineState} → new ≡ told_state (given m now.next) s above → RanOutAfterTurns rows (engine_in start) (engine_in new)
+    wanted_within {new} is = (told e s above, (r.ran, out_less is))
 
-    mark : IsMarkable q (Running p)
-    mark = has_mark t r.sound s.query q (Running p) top.1.1.registered running
+    pub below_within : {until : ℕ} → now.next < until → {new : EngineState} → new ≡ told_state (given m now.next) s above → RanOutBelow rows until (engine_in start) (engine_in new)
+    below_within left {new} is = (told e s above, (r.ran, (out_less is, left)))
 
-    module _ (n : ℕ) (sn : n ≡ s.query) (registration : Registration) (read : registration ≡ get_or m.registered.items n registration) (last : Option ℕ) (had : HasLast e s.query last) where
-      first_is : registration.first ≡ q.first
-      first_is = ap (λ (z : Registered). z.first) (registration_is m e n q registration same_machine (ap (query_at e) sn ∙ top.1.1.registered) read)
+    pub within_next : {new : EngineState} → new ≡ told_state (given m now.next) s above → new.next ≡ now.next + 1
+    within_next {new} is = ap (λ (z : EngineState). z.next) is
 
-      pub last_within : (at : ℕ) → last ≡ Some at → at + 1 ≤ max registration.first all_instants
-      last_within at told = subst (λ k. at + 1 ≤ max k all_instants) (sym first_is) (last_small e s.query q p top.1.1.registered running mark last had at told)
-
-      pub reaches : {upto : ℕ} → upto ≡ marks.behind registration.first last → upto ≡ upto_at e n
-      reaches {upto} is = is ∙ ap (λ k. marks.behind k last) first_is ∙ last_reaches e s.query q p top.1.1.registered running mark last had ∙ ap (upto_at e) (sym sn)
-
-    -- with the slots of the query those that wait leave too
-    slots_leave : without_query s.query m.slots ≡ without_query s.query t.slots
-    slots_leave =
-        ap (without_query s.query) (ap (λ (z : PlainEngine). z.slots) (stopped_here p running).1.1 ∙ r.slots)
-        ∙ sym (told_leave (slot_of (engine_in start)) start.slots s e above listed)
-        ∙ ap (λ ss. without_query s.query (with_updates e (s ∷ option_to_list above) ss)) (sym r.slots)
-
-    module _ (n : ℕ) (sn : n ≡ s.query) (upto : ℕ) (reached : upto ≡ upto_at e n) (new : EngineState) (broke : IsBrokenAt (engine_in (given m now.next)) n upto (engine_in new)) where
-      broke_here : IsBrokenAt (engine_in (given m now.next)) s.query upto (engine_in new)
-      broke_here = subst (λ z. IsBrokenAt (engine_in (given m now.next)) z upto (engine_in new)) sn broke
-
-      reached_here : upto ≡ upto_at e s.query
-      reached_here = reached ∙ ap (upto_at e) sn
-
-      broke_told : IsBrokenAt (engine_in (given mw now.next)) s.query upto (engine_in new)
-      broke_told p0 is = broke_here p0 is ∙ ap (λ ss. record (broken_at (engine_in (given m now.next)) s.query p0 upto) { slots = ss }) slots_leave
-
-      pub wanted_within : RanOutAfterTurns rows (engine_in start) (engine_in new)
-      wanted_within = (told e s above, (r.ran, one.wanted_within t turn rows r.sound r.first r.allowed r.numbers mw stopped_told upto reached_here new broke_told))
-
-      pub below_within : {until : ℕ} → now.next < until → RanOutBelow rows until (engine_in start) (engine_in new)
-      below_within left = (told e s above, (r.ran, (one.wanted_within t turn rows r.sound r.first r.allowed r.numbers mw stopped_told upto reached_here new broke_told, left)))
-
-      pub within_next : new.next ≡ now.next + 1
-      within_next = ap (λ (z : PlainEngine). z.next) (broke_here left_running.0 left_running.1)
-        where
-          left_running : IsRunningAt (engine_in (given m now.next)) s.query
-          left_running = may_break s.query refl
-
-      pub within_sound : Forgets n (given m now.next) new → IsSound new
-      within_sound forgets =
-          let f = subst (λ z. Forgets z (given m now.next) new) sn forgets in
-          one.within_sound t turn rows r.sound r.first r.allowed r.numbers mw stopped_told upto reached_here new broke_told
-          (record { undropped = f.undropped; readers = f.readers; leases = f.leases }) (record { undropped = rest.undropped; readers = rest.readers; leases = rest.leases })
+    pub within_sound : {new : EngineState} → new ≡ told_state (given m now.next) s above → IsSound new
+    within_sound {new} is = subst IsSound (sym is) (sound_then rest allowed_less less.1.2)

@@ -1,16 +1,16 @@
--- Slots that are updated twice, or are updated before they leave: the last counts.
-use Rattle.std.proofs.Common.{◌≡◌, ◌≢◌, ℕ, ◌==◌, true, false, cond, inl, inr, ◌⊎◌, Option, Some, None, List, [], ◌∷◌, refl, sym, ap, ◌∙◌, subst, eq-eqb}
+-- Slots that are updated twice: the last counts.
+use Rattle.std.proofs.Common.{◌≡◌, ◌≢◌, ℕ, inl, inr, ◌⊎◌, Option, Some, None, List, [], ◌∷◌, refl, sym, ap, ◌∙◌, subst}
 use Rattle.std.specs.List.{AllByRecursion}
 use Rattle.std.specs.List.Sorted.{IsStrictlySortedBy}
 use Rattle.std.specs.Ordering.{ordering_reverse}
 use Rattle.std.specs.declared.cmp.Ordering.TheVariants.{Less, Greater}
 use Rattle.column.specs.declared.batch.Side.{Side}
-use Rattle.run_queue.specs.Slots.{changed, slot_cmp, with_next, without_query}
+use Rattle.run_queue.specs.Slots.{changed, slot_cmp, with_next}
 use Rattle.run_queue.specs.declared.slots.Slot.{Slot}
 use Rattle.run_queue.proofs.SlotLemmas.{slots_total}
 use Rattle.laws_engine.specs.Engines.{GoodEngine, HasSlots, IsIn, PlainEngine, slot_of}
-use Rattle.laws_engine.proofs.BackLemmas.{numbered, unequal}
-use Rattle.laws_engine.proofs.SlotLemmas.{AreNumbered, changed_slots, left_slots}
+use Rattle.laws_engine.proofs.BackLemmas.{numbered}
+use Rattle.laws_engine.proofs.SlotLemmas.{AreNumbered, changed_slots}
 use Rattle.laws_engine.proofs.TableLemmas.{updated, updated_here, updated_numbered, updated_there}
 
 -- A TABLE has one list of slots
@@ -81,18 +81,3 @@ module _ (e : PlainEngine) (s : Slot) (g : GoodEngine e) (there : IsIn e.slots s
       same_slots (updated told s.query s.operator (with_next s next)) (changed (with_next s None) next (changed s None e.slots)) (changed s next e.slots)
       (changed_slots told (updated told s.query s.operator (with_next s next)) (changed s None e.slots) (with_next s None) next told_slots told_numbered told_here here there)
       (changed_slots (slot_of e) (updated told s.query s.operator (with_next s next)) e.slots s next g.slots (numbered e) before here (λ n k ne. there n k ne ∙ told_there n k ne))
-
-  -- and then leaves, with the slots of its query
-  abbrev left : ℕ → ℕ → Option Slot
-  left n k = cond (n == s.query) None (slot_of e n k)
-
-  left_here : (k : ℕ) → left s.query k ≡ None
-  left_here k = let t : (s.query == s.query) ≡ true = eq-eqb s.query s.query refl in rw t refl
-
-  left_there : (n k : ℕ) → n ≢ s.query → left n k ≡ slot_of e n k
-  left_there n k ne = let f : (n == s.query) ≡ false = unequal n s.query ne in rw f refl
-
-  pub changed_leaves : without_query s.query (changed s None e.slots) ≡ without_query s.query e.slots
-  changed_leaves = same_slots left (without_query s.query (changed s None e.slots)) (without_query s.query e.slots)
-      (left_slots told left (changed s None e.slots) s.query told_slots told_numbered left_here (λ n k ne. left_there n k ne ∙ sym (told_there n k (inl ne))))
-      (left_slots (slot_of e) left e.slots s.query g.slots (numbered e) left_here left_there)

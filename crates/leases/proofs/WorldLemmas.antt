@@ -1,5 +1,5 @@
 -- What clients see of an engine that takes and drains.
-use Rattle.std.proofs.Common.{◌≡◌, ◌≢◌, ℕ, zero, suc, ℤ, true, false, cond, Option, Some, None, option_and_then, Result, Ok, Err, IfOk, OnOk, List, [], ◌∷◌, ◌++◌, drop, get_or, length, map, max, min, nat_abs, take, refl, sym, ap, ap₂, subst, ◌∙◌, arith}
+use Rattle.std.proofs.Common.{◌≡◌, ℕ, zero, suc, ℤ, true, false, cond, Option, Some, None, option_and_then, Result, Ok, Err, IfOk, OnOk, List, [], ◌∷◌, ◌++◌, drop, get_or, length, map, max, min, nat_abs, take, refl, sym, ap, ap₂, subst, ◌∙◌, arith}
 use Rattle.std.specs.Prelude.{⊤, slice_get}
 use Rattle.values.specs.Row.{Row}
 use Rattle.reference.specs.Commands.{Take, after, change, first_fault}
@@ -7,7 +7,7 @@ use Rattle.plan.proofs.Lists.{by_test}
 use Rattle.reference.specs.Machine.{Machine, Registered, closed_answers, ends_at, unless_dropped, until_for}
 use Rattle.reference.specs.Steps.{AreNext}
 use Rattle.reference.proofs.CommandSteps.{take_is_step}
-use Rattle.reference.specs.World.{Does, Drains, IsPlenty, Looks, MayLackMemory, Step, StopsEarly, WaitingAreNext, World, drain_fault, drain_step, handed, peek_at, take_step, unless, untaken}
+use Rattle.reference.specs.World.{Does, Drains, Looks, MayLackMemory, Step, StopsEarly, WaitingAreNext, World, drain_fault, drain_step, handed, peek_at, take_step, unless, untaken}
 use Rattle.reference.specs.declared.fault.Fault.{Fault}
 use Rattle.reference.specs.declared.fault.Fault.TheVariants as fault
 use Rattle.reference.specs.declared.fault.Fault.TheVariants.{Query, BadName, NameTaken, BadColumns, TooMany, UnknownStream, UnknownQuery, BadWidth, ValueRange, InstantRange, Late, Backward, Leap, StreamFull, BadLimit, UnknownLease, Stranger, TooManyLeases, HistoryFull, OutOfMemory, Foreign}
@@ -229,10 +229,6 @@ module _ {A : Type 0} (view : A → List (ℤ × Row)) (old : PlainEngine) (n : 
 pub drains_wait : (new : PlainEngine) (r : Result ⊤ Fault) → GoodEngine new → OnOk r (first_of new.slots ≡ None) → OnOk r (HasAllWaiting new)
 drains_wait new (Ok u) g idle = idle_waits new g idle
 drains_wait new (Err f) g idle = tt
-
--- want of memory is one of the wants
-pub plenty_has : (r : Result ⊤ Fault) → IsPlenty r → r ≢ Err OutOfMemory
-plenty_has r plenty e = let lacks : true ≡ false = subst IsPlenty e plenty in cc
 
 pub takes_are : {A : Type 0} (view : A → List (ℤ × Row)) (old : PlainEngine) (n : ℕ) (limit : ℤ) (r : Result A Fault) (new : PlainEngine) → IsWholeEngine old → Takes view old n limit r new
     → Does view (world_of old) (take_step (world_of old) n limit) r (world_of new)

@@ -13,7 +13,7 @@ use Rattle.reference.specs.declared.fault.Fault.TheVariants.{BadLimit, OutOfMemo
 use Rattle.laws_queries.specs.Queries.{PlainQuery, log_at, operator_at}
 use Rattle.laws_engine.specs.Calls.{leased}
 use Rattle.laws_engine.specs.Engines.{Lease, PlainEngine}
-use Rattle.laws_engine.specs.Histories.{Breaks, Finishes, IsCallStep}
+use Rattle.laws_engine.specs.Histories.{Finishes, IsCallStep}
 use Rattle.laws_engine.specs.Orders.{IsReady}
 use Rattle.laws_engine.specs.Passing.{HasPassed}
 use Rattle.leases.specs.Turns.{HasReady, IsFull, lease_fault}
@@ -30,24 +30,29 @@ abbrev pub GoesOutOfAny : ℕ → PlainEngine → Lease → PlainEngine → Type
 GoesOutOfAny rows e l out = (q : Registered)
     × ((p : PlainQuery) × (IsTurnOfAny e rows l q p × (out ≡ leased e l q p)))
 
+-- and comes back
+abbrev pub GoesAndComes : ℕ → PlainEngine → Lease → PlainEngine → Type 0
+GoesAndComes rows old l new =
+    (out : PlainEngine) × (GoesOutOfAny rows old l out × IsCallStep out (Finishes l) new)
+
 -- A STEP: one goes out and comes back; or a query passes the instants below one at which it has
--- nothing to do; or one goes out, and memory runs out when it comes back: its query is broken
+-- nothing to do; or a turn runs out of memory: it takes so many rows, fewer than it might, and
+-- comes back
 pub data AnyStep : Type 0 where
   RanAny : Lease → AnyStep
   PassedAny : ℕ → ℕ → AnyStep
-  FailedAny : Lease → AnyStep
+  LessAny : ℕ → Lease → AnyStep
 
 abbrev pub IsAnyStep : ℕ → PlainEngine → AnyStep → PlainEngine → Type 0
-IsAnyStep rows old (RanAny l) new =
-    (out : PlainEngine) × (GoesOutOfAny rows old l out × IsCallStep out (Finishes l) new)
+IsAnyStep rows old (RanAny l) new = GoesAndComes rows old l new
 IsAnyStep rows old (PassedAny n b) new = HasPassed old n b new
-IsAnyStep rows old (FailedAny l) new =
-    (out : PlainEngine) × (GoesOutOfAny rows old l out × IsCallStep out (Breaks l) new)
+IsAnyStep rows old (LessAny n l) new = (0 < n) × (n < rows) × GoesAndComes n old l new
 
-abbrev pub has_failed : AnyStep → Bool
-has_failed (RanAny l) = false
-has_failed (PassedAny n b) = false
-has_failed (FailedAny l) = true
+-- it ran out of memory
+abbrev pub is_less : AnyStep → Bool
+is_less (RanAny l) = false
+is_less (PassedAny n b) = false
+is_less (LessAny n l) = true
 
 -- STEPS, one after the other
 abbrev pub HaveRunAny : ℕ → PlainEngine → List AnyStep → PlainEngine → Type 0
@@ -55,28 +60,29 @@ HaveRunAny rows old [] new = new ≡ old
 HaveRunAny rows old (s ∷ steps) new =
     (mid : PlainEngine) × (IsAnyStep rows old s mid × HaveRunAny rows mid steps new)
 
--- some were done, and none of them failed
+-- some were done, and none of them ran out of memory
 abbrev pub SomeWereDone : ℕ → PlainEngine → PlainEngine → Type 0
 SomeWereDone rows old new = (steps : List AnyStep)
-    × (HaveRunAny rows old steps new × AllByRecursion (λ s. has_failed s ≡ false) steps)
+    × (HaveRunAny rows old steps new × AllByRecursion (λ s. is_less s ≡ false) steps)
 
--- or one or more of them did
-abbrev pub one_has_failed : List AnyStep → Bool
-one_has_failed [] = false
-one_has_failed (s ∷ steps) = has_failed s || one_has_failed steps
+-- or one or more of them ran out of memory, and took fewer rows
+abbrev pub one_was_less : List AnyStep → Bool
+one_was_less [] = false
+one_was_less (s ∷ steps) = is_less s || one_was_less steps
 
-abbrev pub SomeHaveFailed : ℕ → PlainEngine → PlainEngine → Type 0
-SomeHaveFailed rows old new = (steps : List AnyStep)
-    × (HaveRunAny rows old steps new × (one_has_failed steps ≡ true))
+abbrev pub SomeWereLess : ℕ → PlainEngine → PlainEngine → Type 0
+SomeWereLess rows old new = (steps : List AnyStep)
+    × (HaveRunAny rows old steps new × (one_was_less steps ≡ true))
 
--- MEMORY RAN OUT: a step failed; or some were done, and then one that might go out did nothing
+-- MEMORY RAN OUT: in one of the steps, which took fewer rows; or some were done, and then one that
+-- might go out did nothing
 abbrev pub HasRunOut : ℕ → PlainEngine → PlainEngine → Type 0
-HasRunOut rows old new = SomeHaveFailed rows old new
+HasRunOut rows old new = SomeWereLess rows old new
     ⊎ (SomeWereDone rows old new × (lease_fault new rows ≡ None) × HasReady new)
 
--- and it did so before an end: a step failed, or a number below the end was left for one more
+-- and it did so before an end: in one of the steps, or a number below the end was left for one more
 abbrev pub HasRunOutBelow : ℕ → ℕ → PlainEngine → PlainEngine → Type 0
-HasRunOutBelow rows end old new = SomeHaveFailed rows old new ⊎ (new.next < end)
+HasRunOutBelow rows end old new = SomeWereLess rows old new ⊎ (new.next < end)
 
 -- A DRAIN by turns of at most so many rows: some were done; or it was refused where that number is
 -- out of range; or it ended where an operator may be leased and as many turns are out as may be, or
@@ -90,7 +96,7 @@ RunsByQuery old rows (Err OutOfMemory) new =
     (drain_fault rows ≡ None) × HasRunOut rows old new
 RunsByQuery old rows (Err fault) new = ⊥
 
--- A QUERY CAME HOME: none of its steps failed, or one did
+-- A QUERY CAME HOME: none of its steps ran out of memory, or one did
 abbrev pub HaveComeHome : ℕ → Bool → PlainEngine → PlainEngine → Type 0
 HaveComeHome rows true old new = SomeWereDone rows old new
-HaveComeHome rows false old new = SomeHaveFailed rows old new
+HaveComeHome rows false old new = SomeWereLess rows old new

@@ -1,15 +1,13 @@
 -- What a drain does: turns go out and come back, and queries pass instants.
 use Rattle.std.specs.Prelude.{ℕ, Bool, true, false, ⊤, ◌≡◌, ◌<◌, ◌⊎◌, None, Some, List, [], ◌∷◌}
 use Rattle.std.specs.Prelude.{Result, Ok, Err}
-use Rattle.values.specs.Row.{Row}
 use Rattle.turn.specs.declared.turns.Turn.{Turn}
 use Rattle.reference.specs.World.{drain_fault}
 use Rattle.reference.specs.declared.fault.Fault.{Fault}
 use Rattle.reference.specs.declared.fault.Fault.TheVariants.{BadLimit, OutOfMemory, TooManyLeases}
 use Rattle.run_queue.specs.Slots.{first_of}
-use Rattle.laws_engine.specs.Calls.{of_others}
-use Rattle.laws_engine.specs.Engines.{Broken, PlainEngine, remains_at}
-use Rattle.laws_engine.specs.Histories.{Breaks, Finishes, IsCallStep}
+use Rattle.laws_engine.specs.Engines.{PlainEngine}
+use Rattle.laws_engine.specs.Histories.{Finishes, IsCallStep}
 use Rattle.laws_engine.specs.Passing.{HasPassed}
 use Rattle.leases.specs.Turns.{HasReady, IsFull, IsTurnOf, lease_fault}
 use Rattle.leases.specs.Views.{lease_of}
@@ -36,18 +34,23 @@ HaveRun rows old (s ∷ steps) new =
 abbrev pub SomeHaveRun : ℕ → PlainEngine → PlainEngine → Type 0
 SomeHaveRun rows old new = (steps : List Step) × HaveRun rows old steps new
 
--- one went out, and memory ran out when it came back: its query is broken
-abbrev pub OneHasFailed : ℕ → PlainEngine → PlainEngine → Type 0
-OneHasFailed rows old new = (t : Turn)
-    × ((out : PlainEngine) × (IsTurnOf old rows t out × IsCallStep out (Breaks (lease_of t)) new))
+-- one went out and came back
+abbrev pub OneTurnHasRun : ℕ → PlainEngine → PlainEngine → Type 0
+OneTurnHasRun rows old new = (t : Turn) × IsDone rows old (Ran t) new
 
--- memory ran out for a turn that might go out: nothing was done, or it had gone out and broke its
--- query
+-- ONE RAN OUT OF MEMORY within: it is a turn of fewer rows, that went out and came back
+pub record OneHasRunLess (rows : ℕ) (old new : PlainEngine) : Type 0 where
+  pub count : ℕ
+  pub some : 0 < count
+  pub fewer : count < rows
+  pub ran : OneTurnHasRun count old new
+
+-- memory ran out for a turn that might go out: nothing was done, or the turn had fewer rows
 abbrev pub RanOutOfMemory : ℕ → PlainEngine → PlainEngine → Type 0
 RanOutOfMemory rows old new = ((lease_fault old rows ≡ None) × HasReady old × (new ≡ old))
-    ⊎ OneHasFailed rows old new
+    ⊎ OneHasRunLess rows old new
 
--- memory ran out after turns that ran, of which there may be none
+-- and so it did after turns that ran, of which there may be none
 abbrev pub RanOutAfterTurns : ℕ → PlainEngine → PlainEngine → Type 0
 RanOutAfterTurns rows old new =
     (last : PlainEngine) × (SomeHaveRun rows old last × RanOutOfMemory rows last new)
@@ -94,17 +97,6 @@ abbrev pub as_drained : Result Bool Fault → Result ⊤ Fault
 as_drained (Ok more) = Ok tt
 as_drained (Err fault) = Err fault
 
--- THE TURNS OF OTHERS, that were out before
--- exactly those of one query ended, and it is broken
-pub record HasBrokenOne (old new : PlainEngine) : Type 0 where
-  pub query : ℕ
-  pub answers : List (ℕ × Row)
-  pub upto : ℕ
-  pub broken : remains_at new query ≡ Broken answers upto
-  pub left : new.leases ≡ of_others query old.leases
-
--- they all are out, and no more; but where memory ran out, a query may have broken
-abbrev pub LeavesOthers : PlainEngine → Result ⊤ Fault → PlainEngine → Type 0
-LeavesOthers old (Ok u) new = new.leases ≡ old.leases
-LeavesOthers old (Err OutOfMemory) new = (new.leases ≡ old.leases) ⊎ HasBrokenOne old new
-LeavesOthers old (Err fault) new = new.leases ≡ old.leases
+-- THE TURNS OF OTHERS, that were out before, all are out, and no more
+abbrev pub LeavesOthers : PlainEngine → PlainEngine → Type 0
+LeavesOthers old new = new.leases ≡ old.leases

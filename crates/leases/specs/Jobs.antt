@@ -1,14 +1,14 @@
 -- Queries that are out with jobs while each is drained by itself.
-use Rattle.std.specs.Prelude.{ℕ, ◌≡◌, ◌≢◌, ◌+◌, ◌*◌, ◌<◌, ◌≤◌, ◌⊎◌, ⊤, Some, List, [], ◌∷◌, length}
+use Rattle.std.specs.Prelude.{ℕ, ◌≡◌, ◌≢◌, ◌+◌, ◌*◌, ◌<◌, ◌≤◌, ⊤, Some, List, [], ◌∷◌, length}
 use Rattle.std.specs.Prelude.{map, set, slice_get, slice_index_or}
 use Rattle.std.specs.List.{AllByRecursion}
 use Rattle.reference.specs.Machine.{Registered, Stream}
 use Rattle.laws_queries.specs.Queries.{PlainQuery}
 use Rattle.laws_queries.specs.Registrations.{HaveColumnNames}
 use Rattle.laws_engine.specs.Bounds.{HaveFewClosed}
-use Rattle.laws_engine.specs.Engines.{Broken, Dropped, GoodEngine, PlainEngine, PlainRemains}
-use Rattle.laws_engine.specs.Engines.{Running, next_of, query_at, remains_at}
-use Rattle.leases.specs.Alone.{HasFailedOwn, HaveRunOwn, MayRunAlone, OwnStep}
+use Rattle.laws_engine.specs.Engines.{Dropped, GoodEngine, PlainEngine, PlainRemains, Running}
+use Rattle.laws_engine.specs.Engines.{query_at, remains_at}
+use Rattle.leases.specs.Alone.{HaveRunOwn, MayRunAlone, OwnStep, one_was_less_own}
 use Rattle.leases.specs.Passing.{AreSlotsOf}
 use Rattle.leases.specs.Readers.{readers_of}
 use Rattle.leases.specs.Shown.{engine_in}
@@ -35,35 +35,33 @@ pub record IsQuota (quota : Quota) : Type 0 where
   pub some : 0 < quota.rows
   pub few : quota.turns ≤ MOST_TURNS
 
--- A JOB IS DONE: its query has run by itself, or broke
-pub record IsDoneJob (streams : List Stream) (q : Registered) (rows : ℕ) (p : PlainQuery)
-    (j : Job) : Type 0 where
+-- A JOB IS DONE: its query has run by itself. If the job was stopped, it ran out of memory
+pub record IsDoneJob (streams : List Stream) (rows : ℕ) (p : PlainQuery) (j : Job) : Type 0 where
   pub steps : List OwnStep
   pub after : PlainQuery
   pub run : HaveRunOwn streams rows p steps after
   pub few : j.turns ≤ MOST_TURNS
-  pub end : ((remains_of j.remains ≡ Running after) × (j.turns ≡ length steps))
-      ⊎ ((remains_of j.remains ≡ Broken after.answers (next_of q after))
-      × (j.turns ≡ length steps + 1) × HasFailedOwn streams rows after)
+  pub running : remains_of j.remains ≡ Running after
+  pub counts : j.turns ≡ length steps
+  pub stopped : j.stopped ≡ one_was_less_own steps
 
-pub record HasRunJob (streams : List Stream) (all : List Registration) (quota : Quota)
-    (j j2 : Job) : Type 0 where
+pub record HasRunJob (streams : List Stream) (quota : Quota) (j j2 : Job) : Type 0 where
   pub query : j2.query ≡ j.query
   pub slots : j2.slots.items ≡ j.slots.items
   pub most : j2.turns ≤ quota.turns
-  pub done : (q : Registration) (p : PlainQuery) → slice_get all j.query ≡ Some q
-      → remains_of j.remains ≡ Running p → IsDoneJob streams (query_of q) quota.rows p j2
+  pub done : (p : PlainQuery) → remains_of j.remains ≡ Running p
+      → IsDoneJob streams quota.rows p j2
 
 -- the same of each of a list
 abbrev pub MayRunJobs : List Stream → List Registration → List Job → Type 0
 MayRunJobs streams all js = (i : ℕ) (j : Job) → i < length js → j ≡ slice_index_or js i j
     → MayRunJob streams all j
 
-pub record HaveRunJobs (streams : List Stream) (all : List Registration) (quota : Quota)
+pub record HaveRunJobs (streams : List Stream) (quota : Quota)
     (js js2 : List Job) : Type 0 where
   pub many : length js2 ≡ length js
   pub each : (i : ℕ) (d : Job) → i < length js
-      → HasRunJob streams all quota (slice_index_or js i d) (slice_index_or js2 i d)
+      → HasRunJob streams quota (slice_index_or js i d) (slice_index_or js2 i d)
 
 -- none took more numbers than that
 abbrev pub HaveFewTurns : ℕ → List Job → Type 0
@@ -136,7 +134,7 @@ pub record IsBrought (e : PlainEngine) (rows : ℕ) (o : ℕ × PlainRemains) (j
   pub same : o.0 ≡ j.query
   pub of : IsJobOf e j
   pub was : o.1 ≡ Running of.plain
-  pub done : IsDoneJob e.machine.streams of.query rows of.plain j
+  pub done : IsDoneJob e.machine.streams rows of.plain j
 
 abbrev pub AreBrought : PlainEngine → ℕ → List (ℕ × PlainRemains) → List Job → Type 0
 AreBrought e rows [] [] = ⊤

@@ -1,12 +1,11 @@
 -- A turn of the first slot that its query runs in place.
-use Rattle.std.specs.Prelude.{ℕ, ◌≡◌, ◌-◌, List, Option, length}
+use Rattle.std.specs.Prelude.{ℕ, ◌≡◌, List}
 use Rattle.operators.specs.Runs.{Stops}
-use Rattle.operators.specs.States.{last_in}
 use Rattle.operators.specs.declared.runs.Refused.{Refused}
 use Rattle.reference.specs.Machine.{Stream}
-use Rattle.laws_queries.specs.Queries.{PlainQuery, operator_at}
-use Rattle.query_runtime.specs.Runs.{CanRun, HasRun, HasRunItem}
-use Rattle.query_runtime.specs.Turns.{HasOperator, log_of}
+use Rattle.laws_queries.specs.Queries.{PlainQuery}
+use Rattle.query_runtime.specs.Runs.{CanRun, HasRun, HasRunLess}
+use Rattle.query_runtime.specs.Turns.{HasOperator}
 use Rattle.run_queue.specs.declared.slots.Slot.{Slot}
 use Rattle.laws_engine.specs.Engines.{PlainEngine, Running, remains_at}
 use Rattle.leases.specs.Applied.{with_remains}
@@ -30,24 +29,10 @@ HasRunIn old s rows new =
     → (p2 : PlainQuery) × (HasRunOn old.machine.streams p s rows p2
     × (new ≡ with_remains old s.query (Running p2)))
 
--- the instant of the last tick that a query's root has taken
-abbrev pub last_of : PlainQuery → Option ℕ
-last_of p = last_in (operator_at p.operators (length p.operators - 1)).state
-
--- it is that of the query n
-abbrev pub HasLast : PlainEngine → ℕ → Option ℕ → Type 0
-HasLast e n last = (p : PlainQuery) → remains_at e n ≡ Running p → last ≡ last_of p
-
--- IT WAS REFUSED MEMORY: the query is as it was, or had
--- an item in hand, and only its answers are as they were
-pub record HasItemOn (streams : List Stream) (p : PlainQuery) (s : Slot) (rows : ℕ)
-    (p2 : PlainQuery) : Type 0 where
-  pub held : HasRunItem (operator_at p.operators s.operator)
-      (log_of streams p s.operator) s.side rows
-  pub answers : p2.answers ≡ p.answers
-
+-- IT WAS REFUSED MEMORY: the query is as it was, or it has run a turn of fewer rows
 abbrev pub HasStoppedOn : Refused → List Stream → PlainQuery → Slot → ℕ → PlainQuery → Type 0
-HasStoppedOn r streams p s rows p2 = Stops r (p2 ≡ p) (HasItemOn streams p s rows p2)
+HasStoppedOn r streams p s rows p2 =
+    Stops r (p2 ≡ p) (HasRunLess streams p s.operator s.side rows p2)
 
 abbrev pub HasStoppedIn : Refused → PlainEngine → Slot → ℕ → PlainEngine → Type 0
 HasStoppedIn r old s rows new =

@@ -36,7 +36,7 @@ pub length-queue_begins : (taken : ℕ) (ps : List Piece) → length (queue_begi
 length-queue_begins taken ps =
     omega (arith, length-begins ps, length-drop taken (flat_map piece_begins ps), length-drop taken (flat_map piece_entries ps))
 
-flat_map-begins_push : (ps : List Piece) (p : Piece) → flat_map piece_begins (ps ++ p ∷ []) ≡ flat_map piece_begins ps ++ piece_begins p
+pub flat_map-begins_push : (ps : List Piece) (p : Piece) → flat_map piece_begins (ps ++ p ∷ []) ≡ flat_map piece_begins ps ++ piece_begins p
 flat_map-begins_push ps p = flat_map-append piece_begins ps (p ∷ []) ∙ ap (λ x. flat_map piece_begins ps ++ x) (append-nil (piece_begins p))
 
 pub queue_begins-push : {taken len : ℕ} (ps : List Piece) (p : Piece) → IsQueue taken len ps → queue_begins taken (ps ++ p ∷ []) ≡ queue_begins taken ps ++ piece_begins p

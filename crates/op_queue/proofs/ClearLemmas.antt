@@ -1,13 +1,12 @@
 -- Instants of which a cursor's log has no rows.
-use Rattle.std.proofs.Common.{◌≡◌, ℤ, ℕ, suc, ◌+◌, ◌-◌, ◌<◌, ◌≤◌, Bool, false, Option, List, [], ◌∷◌, ◌++◌, drop, get_or, max, refl, ap, sym, ◌∙◌, ◌⊎◌, arith, ⊎_elim}
+use Rattle.std.proofs.Common.{◌≡◌, ℤ, ℕ, suc, ◌+◌, ◌-◌, ◌<◌, ◌≤◌, false, Option, List, [], ◌∷◌, ◌++◌, drop, get_or, refl, ap, sym, ◌∙◌, arith, ⊎_elim}
 use Prim.Native.Nat.{zero}
 use Rattle.std.proofs.lemmas.Bool.{cases_lt}
 use Rattle.std.proofs.lemmas.Bool.Decides.{nat_tests}
-use Rattle.values.specs.Row.{Row}
 use Rattle.values.specs.Window.{Element}
-use Rattle.op_queue.specs.Cursors.{GoesOn, HasLeft, IsClear, IsWithin, cursor_entries, ticks}
-use Rattle.op_queue.specs.Entries.{Entry, TickAt}
-use Rattle.op_queue.specs.Logs.{Closed, HasNoRows, is_shown, row_entries, shown, span_entries, log_entries}
+use Rattle.op_queue.specs.Cursors.{HasLeft, IsClear, ticks}
+use Rattle.op_queue.specs.Entries.{TickAt}
+use Rattle.op_queue.specs.Logs.{Closed, is_shown, row_entries, shown, span_entries, log_entries}
 use Rattle.op_queue.specs.Tables.{element_at, elements_in}
 use Rattle.op_queue.specs.declared.cursor.Cursor.{Cursor}
 use Rattle.op_queue.proofs.CursorLemmas.{entries-fresh, entries-open, span-first}

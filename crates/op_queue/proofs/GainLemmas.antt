@@ -1,6 +1,7 @@
 -- What a queue has gained by the items that were pushed.
 use Rattle.std.proofs.Common.{◌≡◌, Bool, List, [], ◌∷◌, ◌++◌, refl, ap, sym, ◌∙◌, append-nil, append_assoc}
 use Rattle.std.specs.List.{flat_map}
+use Rattle.std.specs.Prelude.{Result, Ok, Err, OnErr}
 use Rattle.std.proofs.lemmas.List.Concat.{flat_map-append}
 use Rattle.values.specs.Row.{Row}
 use Rattle.op_queue.specs.Entries.{Entry}
@@ -33,3 +34,8 @@ gained-more es fs a b c h k = record {
 -- the same of equal entries
 pub gained-same : {es fs : List (Entry Row)} {a b : Waiting} → es ≡ fs → HasGained es a b → HasGained fs a b
 gained-same {a = a} e h = record { items = h.items; stand = h.stand ∙ e; entries = h.entries ∙ ap (λ x. a.entries ++ x) e; begins = h.begins }
+
+-- what holds anyway holds of an error
+pub on_any_err : {T E P : Type 0} (r : Result T E) → P → OnErr r P
+on_any_err (Ok x) p = tt
+on_any_err (Err e) p = p

@@ -10,6 +10,7 @@ pub mod CursorLemmas
 pub mod TableLemmas
 pub mod MarkLemmas
 pub mod GrowthLemmas
+pub mod KeepLemmas
 pub mod PartLemmas
 pub mod SignedLemmas
 pub mod PathLemmas
@@ -20,3 +21,4 @@ pub mod TakeLemmas
 pub mod GainLemmas
 pub mod FlatLemmas
 pub mod ClearLemmas
+pub mod MoveLemmas

@@ -1,5 +1,5 @@
 -- What marks leave of a log's lists.
-use Rattle.std.proofs.Common.{◌≡◌, set, ℕ, ℤ, zero, suc, ◌+◌, ◌-◌, ◌<◌, ◌≤◌, Bool, true, false, Option, None, List, [], ◌∷◌, ◌++◌, length, map, take, drop, get_or, refl, ap, sym, ◌∙◌, arith, subst, length-take-le, length-set, get_or-take}
+use Rattle.std.proofs.Common.{◌≡◌, set, ℕ, ℤ, zero, suc, ◌+◌, ◌<◌, ◌≤◌, Bool, true, false, Option, None, List, [], ◌∷◌, ◌++◌, length, map, take, drop, get_or, refl, ap, sym, ◌∙◌, arith, subst, length-take-le, length-set, get_or-take}
 use Rattle.std.specs.Global.{Vec}
 use Rattle.std.specs.List.{All, range_with_len}
 use Rattle.std.proofs.lemmas.List.{ext_get_or, get_or-map, length-map, map-append, map-set, take_more, take_more_set, drop-set-lt, drop-drop, get_or-drop, take_all}

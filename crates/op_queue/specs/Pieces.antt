@@ -85,3 +85,9 @@ IsLongerRun first last ps qs =
 abbrev pub IsTakenWhole : ℕ → List Piece → List Piece → Item → Type 0
 IsTakenWhole count ps qs (item.Rows t b) = (ps ≡ Rows t b ∷ qs) × (length b ≤ count)
 IsTakenWhole count ps qs (item.Tick t) = ⊥
+
+-- the first piece is this batch, of `count` rows, and the other pieces stay
+pub record IsTakenSized (count : ℕ) (ps qs : List Piece) (t : ℕ) (b : List (Bool × Row))
+    : Type 0 where
+  pub first : ps ≡ Rows t b ∷ qs
+  pub sized : length b ≡ count

@@ -1,8 +1,9 @@
 -- A queue as its callers see it.
-use Rattle.std.specs.Prelude.{◌≡◌, ℕ, ◌+◌, ◌≤◌, ◌==◌, Bool, true, false, cond, Option, None, Some}
-use Rattle.std.specs.Prelude.{List, [], ◌∷◌, ◌++◌, map, take, drop, min, length}
+use Rattle.std.specs.Prelude.{◌≡◌, ℕ, ◌+◌, ◌<◌, ◌≤◌, ◌==◌, Bool, true, false, cond, Option, None}
+use Rattle.std.specs.Prelude.{Some, List, [], ◌∷◌, ◌++◌, map, take, drop, min, get_or, length}
 use Rattle.std.specs.List.{flat_map, last_or}
 use Rattle.values.specs.Row.{Row}
+use Rattle.column.specs.Bits.{chosen}
 use Rattle.op_queue.specs.Entries.{Entry, RowAt, TickAt}
 use Rattle.op_queue.specs.Items.{IsFrontPart, entries_of}
 use Rattle.op_queue.specs.declared.item.Item.{Item}
@@ -79,9 +80,45 @@ pub record HasLeft (count : ℕ) (old new : Waiting) (i : Item) : Type 0 where
   pub counted : new.pieces ≡ pieces_of (drop (length (entries_of i)) old.entries)
       (drop (length (entries_of i)) old.begins)
 
+-- the first n have left
+pub record HasDropped (n : ℕ) (old new : Waiting) : Type 0 where
+  pub entries : new.entries ≡ drop n old.entries
+  pub begins : new.begins ≡ drop n old.begins
+  pub pieces : new.pieces ≤ old.pieces
+  pub counted : new.pieces ≡ pieces_of (drop n old.entries) (drop n old.begins)
+
+-- a batch stands first and comes out at once, of at most `count` rows
+pub record IsFrontBatch (count : ℕ) (w : Waiting) (t : ℕ) (b : List (Bool × Row)) : Type 0 where
+  pub part : IsFrontPart count w.entries (item.Rows t b)
+  pub value : map (RowAt t) b ≡ take (min count (at_once w.begins)) w.entries
+
+-- of the first entries, one for each truth, those that the truths choose
+abbrev pub chosen_first : List Bool → Waiting → List (Entry Row)
+chosen_first mask w = chosen mask (take (length mask) w.entries)
+
+-- a batch begins at this place, or nothing is there
+abbrev pub IsCut : ℕ → Waiting → Type 0
+IsCut n w = (d : Entry Row) → n < length w.entries → (t : ℕ) × (s : Bool × Row)
+    × (get_or w.entries n d ≡ RowAt t s) × (get_or w.begins n false ≡ true)
+
+-- the first of what waits, up to such a place
+pub record IsFirst (n : ℕ) (old new : Waiting) : Type 0 where
+  pub entries : new.entries ≡ take n old.entries
+  pub begins : new.begins ≡ take n old.begins
+  pub pieces : new.pieces ≡ pieces_of (take n old.entries) (take n old.begins)
+
 -- items that stand for these entries were pushed, and each comes out at once
 pub record HasGained (es : List (Entry Row)) (old new : Waiting) : Type 0 where
   pub items : List Item
   pub stand : flat_map entries_of items ≡ es
   pub entries : new.entries ≡ old.entries ++ es
   pub begins : new.begins ≡ old.begins ++ flat_map (λ i. first_begins (entries_of i)) items
+
+-- rows of one instant were pushed, of which there may be none
+abbrev pub HasGrown : Waiting → Waiting → Type 0
+HasGrown old new = (t : ℕ) × (xs : List (Bool × Row)) × HasGained (map (RowAt t) xs) old new
+
+-- begins and pieces are as the entries say
+pub record IsCounted (w : Waiting) : Type 0 where
+  pub begins : length w.begins ≡ length w.entries
+  pub pieces : w.pieces ≡ pieces_of w.entries w.begins

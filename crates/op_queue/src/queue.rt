@@ -1,17 +1,20 @@
 //! Keeps queues: signed rows and ticks between two operators.
 ghost use Rattle.std.specs.Prelude.{◌≡◌, ◌↔◌, IsTrue, Some, ◌+◌, ◌^◌, ◌<◌, ◌≤◌, ◌++◌, []};
-ghost use Rattle.std.specs.Prelude.{length, take, drop, IfOk, OnOk, OnErr, MatchOption, min};
+ghost use Rattle.std.specs.Prelude.{length, take, drop, IfOk, IfSome, OnOk, OnErr, MatchOption, min};
 ghost use Rattle.std.specs.Bool.{OnTrue, OnFalse};
 ghost use Rattle.op_queue.specs.Entries.{IsForward};
 ghost use Rattle.op_queue.specs.Items.{entries_of, first_instant, front_of, ticks};
 ghost use Rattle.op_queue.specs.Items.{IsFrontPart};
-ghost use Rattle.op_queue.specs.Queues.{HasLeft, at_once, each_begins, first_begins};
+ghost use Rattle.op_queue.specs.Queues.{HasDropped, HasGained, HasLeft, IsCut, IsFirst};
+ghost use Rattle.op_queue.specs.Queues.{IsFrontBatch, at_once, chosen_first, each_begins};
+ghost use Rattle.op_queue.specs.Queues.{first_begins};
 ghost use Rattle.op_queue.specs.Queues.{item_pieces, last_entry, pieces_of, run_pieces};
 ghost use Rattle.op_queue.specs.Pieces.{end_of_pieces, piece_begins, piece_entries, piece_size};
-ghost use Rattle.op_queue.specs.Pieces.{IsApart, IsLongerRun, IsPiece, IsTakenWhole};
+ghost use Rattle.op_queue.specs.Pieces.{IsApart, IsLongerRun, IsPiece, IsTakenSized};
+ghost use Rattle.op_queue.specs.Pieces.{IsTakenWhole};
 
 use crate::item::Item;
-use column::Batch;
+use column::{Batch, Mask};
 use std::alloc::{AllocError, Global};
 use std::collections::VecDeque;
 use std::marker::Model;
@@ -220,6 +223,55 @@ impl Queue {
         Some(item)
     }
 
+    /// Lends the batch at the front with its instant, where nothing of it has left and it has at
+    /// most `count` rows. Takes constant time and no memory.
+    pub fn front_batch(&self, count: usize) -> Option<(u64, &Batch)>
+        requires { 0 < count }
+        ensures { IfSome result (λ lent. IsFrontBatch count self.now lent.0 lent.1.now) }
+    {
+        if self.taken != 0 {
+            return None;
+        }
+        match self.pieces.front() {
+            Some(Piece::Rows(at, batch)) if batch.len() <= count => Some((*at, batch)),
+            _ => None,
+        }
+    }
+
+    /// Moves the rows of the front batch that a mask chooses to the back of another queue, as one
+    /// batch, and drops the others. Returns whether it did so: it leaves both as they were where
+    /// something of the batch has left, or where the mask has not one truth for each of its rows.
+    /// Copies no row.
+    ///
+    /// # Errors
+    /// `AllocError` when out of memory; then both queues are as they were.
+    pub fn move_front(&mut self, mask: &Mask, to: &mut Queue) -> Result<bool, AllocError>
+        requires { IsForward (to.old.entries ++ chosen_first mask.now self.old) }
+        ensures dropped { IfOk result (λ moved.
+            OnTrue moved (HasDropped (length mask.now) self.old self.new)) }
+        ensures gained { IfOk result (λ moved.
+            OnTrue moved (HasGained (chosen_first mask.now self.old) to.old to.new)) }
+        ensures stays { IfOk result (λ moved.
+            OnFalse moved ((self.new ≡ self.old) × (to.new ≡ to.old))) }
+        ensures err { OnErr result ((self.new ≡ self.old) × (to.new ≡ to.old)) }
+    {
+        to.pieces.reserve(1)?;
+        if self.taken != 0 {
+            return Ok(false);
+        }
+        let Some((at, batch)) = take_sized(&mut self.pieces, mask.len()) else {
+            return Ok(false);
+        };
+        self.waiting -= batch.len() as u128;
+        if let Some(rows) = batch.kept(mask) {
+            let size = rows.len() as u128;
+            to.pieces.push_back_reserved(Piece::Rows(at, rows));
+            let _count = to.pieces.len(); // for the proof
+            to.waiting += size;
+        }
+        Ok(true)
+    }
+
     /// Drops the first `count` rows and ticks.
     pub fn drop_front(&mut self, count: usize)
         requires { count ≤ length self.old.entries }
@@ -244,6 +296,34 @@ impl Queue {
             }
         }
         self.waiting -= count as u128;
+    }
+
+    /// Keeps the first `count` rows and ticks, and drops what came behind them. A batch has to begin
+    /// at that place, or nothing is there. It costs the batches and runs that go, and takes no
+    /// memory.
+    pub fn keep_first(&mut self, count: u128)
+        requires within { count ≤ length self.old.entries }
+        requires cut { IsCut count self.old }
+        ensures { IsFirst count self.old self.new }
+    {
+        if count == 0 {
+            self.clear();
+            return;
+        }
+        while self.waiting > count
+            && let Some(piece) = self.pieces.pop_back()
+        {
+            self.waiting -= piece.size();
+        }
+    }
+
+    /// Drops all that waits.
+    fn clear(&mut self)
+        ensures { self.new ≡ record { entries = []; begins = []; pieces = 0 } }
+    {
+        self.pieces.clear();
+        self.taken = 0;
+        self.waiting = 0;
     }
 
     /// Adds a piece at the back.
@@ -339,6 +419,21 @@ fn take_batch(pieces: &mut VecDeque<Piece>, count: usize) -> Option<Item>
     }
     match pieces.pop_front() {
         Some(Piece::Rows(at, batch)) => Some(Item::Rows(at, batch)),
+        _ => None,
+    }
+}
+
+/// Takes the piece at the front where it is a batch of so many rows.
+fn take_sized(pieces: &mut VecDeque<Piece>, count: usize) -> Option<(u64, Batch)>
+    ensures { MatchOption result (pieces.new.items ≡ pieces.old.items)
+        (λ taken. IsTakenSized count pieces.old.items pieces.new.items taken.0 taken.1) }
+{
+    match pieces.front() {
+        Some(Piece::Rows(_, batch)) if batch.len() == count => (),
+        _ => return None,
+    }
+    match pieces.pop_front() {
+        Some(Piece::Rows(at, batch)) => Some((at, batch)),
         _ => None,
     }
 }

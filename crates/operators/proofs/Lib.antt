@@ -3,3 +3,10 @@ pub mod KindLemmas
 pub mod LatestLemmas
 pub mod InPlaceLemmas
 pub mod QuietLemmas
+pub mod RefusedLemmas
+pub mod FrontLemmas
+pub mod QueueFronts
+pub mod JoinFronts
+pub mod GroupFronts
+pub mod TakenFronts
+pub mod RootFronts

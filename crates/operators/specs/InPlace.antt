@@ -1,14 +1,15 @@
 -- Runs of a state in place, with an item in hand and the queue above.
-use Rattle.std.specs.Prelude.{ℕ, ◌≡◌, true, List, [], ◌++◌, length}
+use Rattle.std.specs.Prelude.{ℕ, ◌≡◌, ◌<◌, Bool, true, List, [], ◌++◌, length, take}
 use Rattle.values.specs.Row.{Row}
 use Rattle.column.specs.declared.batch.Side.{Side}
 use Rattle.op_queue.specs.Entries.{Entry, IsForward}
-use Rattle.op_queue.specs.Items.{IsFrontPart, entries_of, item_instant}
-use Rattle.op_queue.specs.Logs.{Closed}
+use Rattle.op_queue.specs.Items.{entries_of, item_instant}
 use Rattle.op_queue.specs.Queues.{HasGained, Waiting}
 use Rattle.op_queue.specs.declared.item.Item.{Item}
+use Rattle.op_queue.specs.declared.item.Item.TheVariants as item
 use Rattle.group.specs.Turns as groups
 use Rattle.group.specs.Turns.{RoomFor}
+use Rattle.join.specs.Laws.{MayLeave}
 use Rattle.join.specs.Turns as join
 use Rattle.join.specs.Turns.{JoinState, side_of}
 use Rattle.row_nodes.specs.Project.{projected}
@@ -22,9 +23,8 @@ use Rattle.windows.specs.Widths.{IsItemWide}
 use Rattle.turn.specs.Turns.{Answered, Outs, Put}
 use Rattle.turn.specs.declared.kinds.Kind.{Kind}
 use Rattle.turn.specs.declared.kinds.Kind.TheVariants as kind
-use Rattle.operators.specs.Inboxes.{IsDropped, all_begins, all_entries, begins_in, cut_of, is_fed}
-use Rattle.operators.specs.Inboxes.{queued}
-use Rattle.operators.specs.Operators.{HasNamedColumns, PlainOperator, inbox_of, other, waiting}
+use Rattle.operators.specs.Inboxes.{all_begins, all_entries, begins_in, is_fed, queued}
+use Rattle.operators.specs.Operators.{HasNamedColumns}
 use Rattle.operators.specs.States.{IsLatestAfter, TakesSlide, range_after}
 use Rattle.operators.specs.declared.inboxes.Inbox.{Inbox}
 use Rattle.operators.specs.declared.states.State.{State}
@@ -63,6 +63,7 @@ pub record MayTakeRows (k : Kind) (i : Item) : Type 0 where
 pub record MayTakeSide (s : JoinState) (side : Side) (i : Item) : Type 0 where
   pub wide : join.IsItemWide (side_of s side).width i
   pub room : join.HasRoom (side_of s side) i
+  pub legal : MayLeave s side i
 
 abbrev pub MayTake : Kind → State → Side → Item → Type 0
 MayTake k (Range s) side i = MayTakeRange s i
@@ -91,6 +92,24 @@ IsAfterItem (Join s) side i new = new ≡ Join (join.next s side i)
 IsAfterItem (Groups s) side i new =
     new ≡ Groups (groups.next s i (groups.change s.group i (groups.near s i)))
 IsAfterItem (Root s) side i new = new ≡ Root (root.next s i)
+
+-- WHERE MEMORY RAN OUT among an item's rows: groups and roots have taken the first of them
+abbrev pub rows_in : Item → List (Bool × Row)
+rows_in (item.Rows t b) = b
+rows_in (item.Tick t) = []
+
+abbrev pub TookRows : State → List (Bool × Row) → State → Type 0
+TookRows (Range s) b new = ⊥
+TookRows (Slide s) b new = ⊥
+TookRows (Latest s) b new = ⊥
+TookRows Nothing b new = ⊥
+TookRows (Join s) b new = ⊥
+TookRows (Groups s) b new = new ≡ Groups (groups.rows_after s b)
+TookRows (Root s) b new = new ≡ Root (root.taken s b)
+
+pub record HasTaken (s : State) (i : Item) (n : ℕ) (new : State) : Type 0 where
+  pub fewer : n < length (entries_of i)
+  pub took : TookRows s (take n (rows_in i)) new
 
 -- of a root: it takes the item, what it answers, and the state after it
 abbrev pub MayAnswer : State → Item → Type 0
@@ -148,19 +167,3 @@ pub record HasCome (es : List (Entry Row)) (old new : Inbox) : Type 0 where
 abbrev pub HaveCome : Outs → Inbox → Inbox → Type 0
 HaveCome (Put es) old new = HasCome es old new
 HaveCome (Answered given) old new = ⊥
-
--- THE FRONT HAS LEFT: the item came out at once of the side, and all else is as it was
-pub record HasTaken (o : PlainOperator) (log : Closed) (side : Side) (rows : ℕ) (i : Item)
-    (new : PlainOperator) : Type 0 where
-  pub part : IsFrontPart rows (waiting o log side) i
-  pub cut : entries_of i ≡ cut_of rows (inbox_of o side) log
-  pub kind : new.kind ≡ o.kind
-  pub state : new.state ≡ o.state
-  pub dropped : IsDropped (length (entries_of i)) log (inbox_of o side) (inbox_of new side)
-  pub other : inbox_of new (other side) ≡ inbox_of o (other side)
-
--- THE STATE HAS CHANGED, and all else of the operator is as it was
-pub record KeepsInboxes (old new : PlainOperator) : Type 0 where
-  pub kind : new.kind ≡ old.kind
-  pub left : new.left ≡ old.left
-  pub right : new.right ≡ old.right

@@ -1,6 +1,7 @@
 pub mod States
 pub mod Inboxes
 pub mod Operators
-pub mod Runs
 pub mod InPlace
+pub mod Fronts
+pub mod Runs
 pub mod Passing

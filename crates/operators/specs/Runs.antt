@@ -1,5 +1,6 @@
 -- Turns that an operator runs in place, with what stands first on one of its sides.
-use Rattle.std.specs.Prelude.{ℕ, ◌≡◌, ◌<◌, Bool, true, false, List, ◌++◌, length}
+use Rattle.std.specs.Prelude.{ℕ, zero, suc, ⊤, ◌≡◌, ◌<◌, Bool, true, false, List, ◌++◌, length}
+use Rattle.std.specs.Prelude.{Result, Ok, Err}
 use Rattle.values.specs.Row.{Row}
 use Rattle.column.specs.declared.batch.Side.{Side}
 use Rattle.op_queue.specs.Entries.{Entry, IsForward}
@@ -14,8 +15,8 @@ use Rattle.turn.specs.declared.outcomes.Change.{Change}
 use Rattle.turn.specs.declared.parts.Parts.{Parts}
 use Rattle.operators.specs.Inboxes.{IsInboxWithin, all_entries, cut_of, is_fed, queued}
 use Rattle.operators.specs.Operators.{Belongs, HasNamedColumns, IsFed, IsFinished, KeepsBatches}
-use Rattle.operators.specs.Operators.{PlainOperator, inbox_of, waiting}
-use Rattle.operators.specs.States.{HasColumns, Takes, near_of}
+use Rattle.operators.specs.Operators.{PlainOperator, inbox_of, other, waiting}
+use Rattle.operators.specs.States.{HasColumns, HasStood, Takes, near_of}
 use Rattle.operators.specs.declared.runs.Refused.{Refused}
 use Rattle.operators.specs.declared.runs.Refused.TheVariants.{Before, Within}
 
@@ -44,6 +45,7 @@ pub record TakesItem (o : PlainOperator) (side : Side) (i : Item) : Type 0 where
   pub columns : HasColumns o.state side i
   pub named : HasNamedColumns o.kind i
   pub takes : Takes o.state side i (change_with o side i)
+  pub stood : HasStood o.state side i
 
 pub record MayRun (o : PlainOperator) (log : Closed) (side : Side) (rows : ℕ) : Type 0 where
   pub waits : 0 < length (waiting o log side)
@@ -87,9 +89,6 @@ pub record IsInHand (o : PlainOperator) (log : Closed) (side : Side) (rows : ℕ
   pub cut : entries_of i ≡ cut_of rows (inbox_of o side) log
   pub fits : FitsKind o.kind side i (near_of o.state side i)
 
-abbrev pub HasItem : PlainOperator → Closed → Side → ℕ → Type 0
-HasItem o log side rows = (i : Item) × IsInHand o log side rows i
-
 -- what a turn makes of an item with an excerpt
 pub record IsMade (k : Kind) (side : Side) (i : Item) (n : Excerpt) (d : Parts) : Type 0 where
   pub item : d.item ≡ i
@@ -128,7 +127,47 @@ pub record HasRunRoot (o : PlainOperator) (log : Closed) (side : Side) (rows : �
   pub finished : IsFinished o log side item (change_with o side item) new
   pub given : HasGiven (outs_with o side item) answers new_answers
 
--- A RUN THAT WAS REFUSED MEMORY left all as it was, or had an item in hand
+-- AFTER A RUN that ran out of memory among the rows: it was one of fewer rows
+pub record HasRunBelowLess (o : PlainOperator) (log : Closed) (side : Side) (rows : ℕ)
+    (to : PlainOperator) (to_side : Side) (new new_to : PlainOperator) : Type 0 where
+  pub count : ℕ
+  pub some : 0 < count
+  pub fewer : count < rows
+  pub run : HasRunBelow o log side count to to_side new new_to
+
+pub record HasRunRootLess (o : PlainOperator) (log : Closed) (side : Side) (rows : ℕ)
+    (answers : List (ℕ × Row)) (new : PlainOperator) (new_answers : List (ℕ × Row)) : Type 0 where
+  pub count : ℕ
+  pub some : 0 < count
+  pub fewer : count < rows
+  pub run : HasRunRoot o log side count answers new new_answers
+
+-- A RUN THAT RAN OUT OF MEMORY left all as it was, or had taken some of an item's rows, where the
+-- operator takes them one after the other
 abbrev pub Stops : Refused → Type 0 → Type 0 → Type 0
 Stops Before same held = same
 Stops Within same held = held
+
+-- the same of one that counts the rows which it has taken
+abbrev pub StopsAt : ℕ → Type 0 → Type 0 → Type 0
+StopsAt zero same held = same
+StopsAt (suc n) same held = held
+
+-- all else of an operator is as it was, where one side and the state may have changed, or one side
+pub record IsElse (side : Side) (old new : PlainOperator) : Type 0 where
+  pub kind : new.kind ≡ old.kind
+  pub other : inbox_of new (other side) ≡ inbox_of old (other side)
+
+pub record IsAbove (side : Side) (old new : PlainOperator) : Type 0 where
+  pub kind : new.kind ≡ old.kind
+  pub state : new.state ≡ old.state
+  pub other : inbox_of new (other side) ≡ inbox_of old (other side)
+
+-- what a run has done that leaves all as it was if it runs out of memory
+abbrev pub refused_before : {E : Type 0} → Result ⊤ E → Result ⊤ Refused
+refused_before (Ok u) = Ok u
+refused_before (Err e) = Err Before
+
+abbrev pub none_taken : {E : Type 0} → Result ⊤ E → Result ⊤ ℕ
+none_taken (Ok u) = Ok u
+none_taken (Err e) = Err zero

@@ -8,6 +8,7 @@ use Rattle.op_queue.specs.Items.{item_instant}
 use Rattle.op_queue.specs.declared.item.Item.{Item}
 use Rattle.group.specs.Turns as groups
 use Rattle.group.specs.Turns.{GroupState, ShownState, RoomFor}
+use Rattle.join.specs.Laws.{MayLeave}
 use Rattle.join.specs.Turns as join
 use Rattle.join.specs.Turns.{side_of}
 use Rattle.to_stream.specs.Turns as root
@@ -149,3 +150,13 @@ Takes Nothing side i c = Unit {0}
 Takes (Join s) side i c = join.HasRoom (side_of s side) i
 Takes (Groups s) side i c = TakesGroups s i c
 Takes (Root s) side i c = root.HasRoom s i
+
+-- WHAT CAME BEFORE: of a join the rows that leave are among those that its side has taken
+abbrev pub HasStood : State → Side → Item → Type 0
+HasStood (Range s) side i = Unit {0}
+HasStood (Slide s) side i = Unit {0}
+HasStood (Latest s) side i = Unit {0}
+HasStood Nothing side i = Unit {0}
+HasStood (Join s) side i = MayLeave s side i
+HasStood (Groups s) side i = Unit {0}
+HasStood (Root s) side i = Unit {0}

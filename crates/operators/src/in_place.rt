@@ -1,13 +1,15 @@
 //! Turns that states run in place.
-ghost use Rattle.std.specs.Prelude.{◌≡◌, ◌++◌, OnErr, OnOk};
+ghost use Rattle.std.specs.Prelude.{◌≡◌, ◌++◌, IfErr, OnErr, OnOk};
 ghost use Rattle.op_queue.specs.Entries.{IsForward};
-ghost use Rattle.op_queue.specs.Queues.{HasGained};
-ghost use Rattle.to_stream.specs.Turns as roots;
+ghost use Rattle.op_queue.specs.Queues.{HasGained, HasGrown};
+ghost use Rattle.group.specs.Turns as spec;
 ghost use Rattle.turn.specs.Turns.{FitsRange, FitsLatest, FitsSlide};
 ghost use Rattle.turn.specs.declared.excerpts.Excerpt.TheVariants as nears;
-ghost use Rattle.operators.specs.InPlace.{HasQueued, HaveCome, IsAfterItem, MayAnswer};
-ghost use Rattle.operators.specs.InPlace.{MayComeAll, MayQueue, MayTake, MayTakeRange};
-ghost use Rattle.operators.specs.InPlace.{after_answers, answers_from, outs_from};
+ghost use Rattle.operators.specs.InPlace.{HasQueued, HasTaken, HaveCome, IsAfterItem, MayComeAll};
+ghost use Rattle.operators.specs.InPlace.{MayQueue, MayTake, MayTakeRange};
+ghost use Rattle.operators.specs.InPlace.{outs_from};
+ghost use Rattle.operators.specs.Runs.{StopsAt};
+ghost use Rattle.operators.specs.declared.states.State.TheVariants.{Groups};
 ghost use Rattle.operators.specs.States.{FitsState, LatestAfter, TakesSlide, near_of, range_after};
 ghost use Rattle.windows.specs.Latest as latest;
 ghost use Rattle.windows.specs.Range as ranges;
@@ -15,21 +17,22 @@ ghost use Rattle.windows.specs.Slide as slides;
 ghost use Rattle.windows.specs.Widths.{IsItemWide};
 
 use crate::inboxes::{Inbox, with_queue};
+use crate::runs::untaken;
 use crate::states::State;
 use column::Side;
+use group::Group;
 use op_queue::{Item, Queue};
-use row_bags::DatedRows;
 use row_nodes::{run_project, run_select};
 use std::alloc::{AllocError, Global};
-use to_stream::ToStream;
 use turn::Kind;
 use windows::{LatestWindow, RangeWindow, SlideWindow};
 
 impl State {
-    /// Takes an item that has left its queue, and appends the turn's outputs to the inbox.
+    /// Takes an item, and appends the turn's outputs to an inbox.
     ///
     /// # Errors
-    /// `AllocError` when out of memory; then you can only drop the state and the inbox.
+    /// The number of rows that were taken, when out of memory. Exactly these were, and the inbox is
+    /// as it was.
     pub(crate) fn run_into(
         &mut self,
         alloc: Global,
@@ -37,76 +40,117 @@ impl State {
         side: Side,
         item: Item,
         inbox: &mut Inbox,
-    ) -> Result<(), AllocError>
+    ) -> Result<(), usize>
         requires may { MayTake kind.now self.old side item }
         requires come { MayComeAll (outs_from kind.now self.old side item) inbox.old }
         ensures next { OnOk result (IsAfterItem self.old side item self.new) }
         ensures come { OnOk result
             (HaveCome (outs_from kind.now self.old side item) inbox.old inbox.new) }
+        ensures err { IfErr result (λ taken.
+            StopsAt taken (self.new ≡ self.old) (HasTaken self.old item taken self.new)) }
+        ensures same { OnErr result (inbox.new ≡ inbox.old) }
         ensures fits { FitsState self.old item (near_of self.old side item) }
     {
-        with_queue!(inbox, queue => self.run(alloc, kind, side, item, queue))
+        with_queue!(inbox, queue => self.run_kept_item(alloc, kind, side, item, queue))
     }
 
-    /// Does the same with the queue of the inbox.
-    fn run(
+    /// Does so with the queue of the inbox.
+    fn run_kept_item(
         &mut self,
         alloc: Global,
         kind: &Kind,
         side: Side,
         item: Item,
         queue: &mut Queue,
-    ) -> Result<(), AllocError>
+    ) -> Result<(), usize>
         requires may { MayTake kind.now self.old side item }
         requires queue { MayQueue (outs_from kind.now self.old side item) queue.old }
         ensures next { OnOk result (IsAfterItem self.old side item self.new) }
         ensures queue { OnOk result
             (HasQueued (outs_from kind.now self.old side item) queue.old queue.new) }
+        ensures err { IfErr result (λ taken.
+            StopsAt taken (self.new ≡ self.old) (HasTaken self.old item taken self.new)) }
+        ensures same { OnErr result (queue.new ≡ queue.old) }
         ensures fits { FitsState self.old item (near_of self.old side item) }
     {
-        match (self, kind) {
-            (State::Range(window), _) => run_range(alloc, window, item, queue),
-            (State::Slide(window), _) => run_slide(alloc, window, item, queue),
-            (State::Latest(window), _) => run_latest(alloc, window, item, queue),
-            (State::Nothing, Kind::Select(steps)) => {
-                run_select(alloc, &steps.steps, item, queue)
+        let count = queue.len();
+        let _pieces = queue.pieces(); // for the proof
+        match self.run(alloc, kind, side, item, queue) {
+            Ok(()) => Ok(()),
+            Err(taken) => {
+                queue.keep_first(count);
+                Err(taken)
             }
-            (State::Nothing, Kind::Project(columns)) => {
-                run_project(alloc, columns.columns(), item, queue)
-            }
-            (State::Join(join), _) => join.run(alloc, side, item, queue),
-            (State::Groups(groups), _) => groups.run(alloc, item, queue),
-            (State::Nothing | State::Root(_), _) => unreachable!(),
         }
     }
 
-    /// Takes an item at a root, and appends the turn's answers to those that wait.
+    /// Takes an item, and pushes the turn's outputs to the back of a queue.
     ///
     /// # Errors
-    /// `AllocError` when out of memory. The answers are as they were, but you can only drop the
-    /// state.
-    pub(crate) fn answer(&mut self, item: &Item, answers: &mut DatedRows) -> Result<(), AllocError>
-        requires { MayAnswer self.old item.now }
-        ensures next { OnOk result (self.new ≡ after_answers self.old item.now) }
-        ensures given { OnOk result (answers.new
-            ≡ answers.old ++ answers_from self.old item.now) }
-        ensures answers { OnErr result (answers.new ≡ answers.old) }
+    /// The number of rows that were taken, when out of memory. Exactly these were, and the queue has
+    /// only grown by rows of one instant.
+    pub(crate) fn run(
+        &mut self,
+        alloc: Global,
+        kind: &Kind,
+        side: Side,
+        item: Item,
+        queue: &mut Queue,
+    ) -> Result<(), usize>
+        requires may { MayTake kind.now self.old side item }
+        requires queue { MayQueue (outs_from kind.now self.old side item) queue.old }
+        ensures next { OnOk result (IsAfterItem self.old side item self.new) }
+        ensures queue { OnOk result
+            (HasQueued (outs_from kind.now self.old side item) queue.old queue.new) }
+        ensures err { IfErr result (λ taken.
+            StopsAt taken (self.new ≡ self.old) (HasTaken self.old item taken self.new)) }
+        ensures grown { OnErr result (HasGrown queue.old queue.new) }
+        ensures fits { FitsState self.old item (near_of self.old side item) }
     {
-        match self {
-            State::Root(root) => run_root(root, item, answers),
-            _ => unreachable!(),
+        match (self, kind) {
+            (State::Range(window), _) => untaken(run_range(alloc, window, item, queue)),
+            (State::Slide(window), _) => untaken(run_slide(alloc, window, item, queue)),
+            (State::Latest(window), _) => untaken(run_latest(alloc, window, item, queue)),
+            (State::Nothing, Kind::Select(steps)) => {
+                untaken(run_select(alloc, &steps.steps, item, queue))
+            }
+            (State::Nothing, Kind::Project(columns)) => {
+                untaken(run_project(alloc, columns.columns(), item, queue))
+            }
+            (State::Join(join), _) => untaken(join.run(alloc, side, item, queue)),
+            (State::Groups(groups), _) => run_groups_item(groups, alloc, &item, queue),
+            (State::Nothing | State::Root(_), _) => unreachable!(),
         }
     }
 }
 
-fn run_root(root: &mut ToStream, item: &Item, answers: &mut DatedRows) -> Result<(), AllocError>
-    requires { roots.HasRoom root.old item.now }
-    ensures next { OnOk result (root.new ≡ roots.next root.old item.now) }
-    ensures given { OnOk result (answers.new
-        ≡ answers.old ++ roots.out item.now (roots.near root.old item.now)) }
-    ensures answers { OnErr result (answers.new ≡ answers.old) }
+/// Takes an item of groups, and pushes the turn's outputs to the back of a queue.
+///
+/// # Errors
+/// The number of rows that were taken, when out of memory. Exactly these were, and the queue has
+/// only grown by rows of one instant.
+pub(crate) fn run_groups_item(
+    groups: &mut Group,
+    alloc: Global,
+    item: &Item,
+    queue: &mut Queue,
+) -> Result<(), usize>
+    requires may { spec.RoomFor groups.old item.now }
+    requires forward { IsForward (queue.old.entries
+        ++ spec.out groups.old.group item.now (spec.near groups.old item.now)) }
+    ensures next { OnOk result (groups.new ≡ spec.next groups.old item.now
+        (spec.change groups.old.group item.now (spec.near groups.old item.now))) }
+    ensures gained { OnOk result
+        (HasGained (spec.out groups.old.group item.now (spec.near groups.old item.now))
+        queue.old queue.new) }
+    ensures err { IfErr result (λ taken. StopsAt taken (groups.new ≡ groups.old)
+        (HasTaken (Groups groups.old) item.now taken (Groups groups.new))) }
+    ensures grown { OnErr result (HasGrown queue.old queue.new) }
 {
-    root.run(item, answers)
+    match item {
+        Item::Rows(_, batch) => groups.run_rows(batch),
+        Item::Tick(at) => untaken(groups.run_tick(alloc, *at, queue)),
+    }
 }
 
 fn run_range(
@@ -121,6 +165,8 @@ fn run_range(
     ensures next { OnOk result (window.new ≡ range_after window.old item) }
     ensures gained { OnOk result
         (HasGained (ranges.out item (ranges.near window.old item)) queue.old queue.new) }
+    ensures err { OnErr result (window.new ≡ window.old) }
+    ensures grown { OnErr result (HasGrown queue.old queue.new) }
     ensures fits { FitsRange (nears.Leaving (ranges.near window.old item)) }
 {
     window.run(alloc, item, queue)
@@ -138,6 +184,8 @@ fn run_slide(
     ensures next { OnOk result (window.new ≡ slides.next window.old item) }
     ensures gained { OnOk result
         (HasGained (slides.out item (slides.near window.old item)) queue.old queue.new) }
+    ensures err { OnErr result (window.new ≡ window.old) }
+    ensures grown { OnErr result (HasGrown queue.old queue.new) }
     ensures fits { FitsSlide (nears.Sliding (slides.near window.old item)) }
 {
     window.run(alloc, item, queue)
@@ -155,6 +203,8 @@ fn run_latest(
     ensures next { OnOk result (LatestAfter window.old item window.new) }
     ensures gained { OnOk result
         (HasGained (latest.out item (latest.near window.old item)) queue.old queue.new) }
+    ensures err { OnErr result (window.new ≡ window.old) }
+    ensures grown { OnErr result (HasGrown queue.old queue.new) }
     ensures fits { FitsLatest item (nears.Fallen (latest.near window.old item)) }
 {
     window.run(alloc, item, queue)

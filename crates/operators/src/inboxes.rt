@@ -1,5 +1,5 @@
 //! What waits for operators.
-ghost use Rattle.std.specs.Prelude.{◌≡◌, ℕ, ◌<◌, ◌≤◌, ◌++◌, true, length, drop, IfOk, OnErr};
+ghost use Rattle.std.specs.Prelude.{◌≡◌, ℕ, ◌<◌, ◌≤◌, ◌++◌, true, length, drop, IfOk};
 ghost use Rattle.std.specs.Prelude.{OnOk};
 ghost use Rattle.op_queue.specs.Entries.{IsForward};
 ghost use Rattle.op_queue.specs.Items.{IsFrontPart, entries_of, first_instant, front_of};
@@ -69,27 +69,6 @@ impl Inbox {
         match self {
             Inbox::First(cursor) => cursor.front_cut(alloc, log, rows),
             Inbox::Between(queue) => queue.front_cut(alloc, rows),
-        }
-    }
-
-    /// Takes the front out: a tick, or at most `rows` of the rows that are there together. It moves
-    /// a batch that leaves a queue whole.
-    ///
-    /// # Errors
-    /// `AllocError` when out of memory; nothing has changed.
-    pub fn take(&mut self, alloc: Global, log: &Log, rows: usize) -> Result<Item, AllocError>
-        requires waits { 0 < length (entries_in self.old log.now) }
-        requires some { 0 < rows }
-        requires within { IsInboxWithin self.old log.now }
-        ensures part { IfOk result (IsFrontPart rows (entries_in self.old log.now)) }
-        ensures value { IfOk result (λ item. entries_of item ≡ cut_of rows self.old log.now) }
-        ensures dropped { IfOk result (λ item.
-            IsDropped (length (entries_of item)) log.now self.old self.new) }
-        ensures err { OnErr result (self.new ≡ self.old) }
-    {
-        match self {
-            Inbox::First(cursor) => cursor.take(alloc, log, rows),
-            Inbox::Between(queue) => queue.take(alloc, rows),
         }
     }
 

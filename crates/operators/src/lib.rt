@@ -8,6 +8,7 @@
 //! changes the state. Then the outputs feed the operator above.
 #![tactic(auto)]
 
+mod fronts;
 mod in_place;
 mod inboxes;
 mod running;

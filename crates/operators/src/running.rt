@@ -1,24 +1,25 @@
 //! The operators of a running query.
-ghost use Rattle.std.specs.Prelude.{◌≡◌, ℕ, ◌<◌, ◌≤◌, ◌++◌, [], true, length, IfOk, OnErr};
+ghost use Rattle.std.specs.Prelude.{◌≡◌, ℕ, ◌<◌, ◌≤◌, ◌++◌, [], true, length, IfErr, IfOk, OnErr};
 ghost use Rattle.std.specs.Prelude.{OnOk};
 ghost use Rattle.std.specs.Arc.{arc_value};
 ghost use Rattle.op_queue.specs.Entries.{IsForward};
 ghost use Rattle.op_queue.specs.Items.{IsFrontPart, entries_of};
 ghost use Rattle.turn.specs.Turns.{FitsKind};
-ghost use Rattle.operators.specs.InPlace.{HasTaken, IsAfterItem, KeepsInboxes, MayAnswer};
-ghost use Rattle.operators.specs.InPlace.{MayTake, after_answers, answers_from, outs_from};
+ghost use Rattle.operators.specs.Fronts.{HasAnsweredFirst, HasRunFirst, HasTakenFirst, IsRunnable};
+ghost use Rattle.operators.specs.Fronts.{MayAnswerFirst, MayComeFirst, MayTakeFirst};
 ghost use Rattle.operators.specs.Inboxes.{IsDropped, IsInboxWithin, all_entries, cut_of};
 ghost use Rattle.operators.specs.Inboxes.{is_fed, queued};
 ghost use Rattle.operators.specs.Operators.{Belongs, HasNamedColumns, IsFed, IsFinished};
 ghost use Rattle.operators.specs.Operators.{KeepsBatches, inbox_of, other, ready};
 ghost use Rattle.operators.specs.Operators.{ready_at, waiting};
 ghost use Rattle.operators.specs.Passing.{IsPassed, IsQuiet, MayPass};
-ghost use Rattle.operators.specs.Runs.{HasPutTo, MayPut, is_root};
+ghost use Rattle.operators.specs.Runs.{IsAbove, IsElse, Stops, is_root};
 ghost use Rattle.operators.specs.States.{FitsState, HasColumns, IsNext, Takes, near_of};
 ghost use Rattle.operators.specs.States.{last_in, usable};
 ghost use Rattle.operators.specs.declared.inboxes.Inbox.TheVariants.{Between};
 
 use crate::inboxes::Inbox;
+use crate::runs::Refused;
 use crate::states::State;
 use column::Side;
 use op_queue::{Item, Log, Queue};
@@ -220,79 +221,108 @@ impl Operator {
         self.inbox(side).len(log)
     }
 
-    /// Takes the front of a side out.
+    /// Takes what stands first on a side, and appends the turn's outputs to a side of the operator
+    /// above.
     ///
     /// # Errors
-    /// `AllocError` when out of memory; nothing has changed.
-    pub(crate) fn take(
+    /// `Refused` when out of memory; then the operator above is as it was. At `Before` this one is.
+    /// At `Within` it has taken some of the rows, which have left.
+    pub(crate) fn run_first(
         &mut self,
         alloc: Global,
         log: &Log,
         side: Side,
         rows: usize,
-    ) -> Result<Item, AllocError>
-        requires waits { 0 < length (waiting self.old log.now side) }
-        requires some { 0 < rows }
-        requires within { IsInboxWithin (inbox_of self.old side) log.now }
-        ensures taken { IfOk result (λ item. HasTaken self.old log.now side rows item self.new) }
-        ensures err { OnErr result (self.new ≡ self.old) }
-    {
-        match side {
-            Side::Left => self.left.take(alloc, log, rows),
-            Side::Right => self.right.take(alloc, log, rows),
-        }
-    }
-
-    /// Takes an item that has left its queue, and appends the turn's outputs to a side of the
-    /// operator above.
-    ///
-    /// # Errors
-    /// `AllocError` when out of memory; then you can only drop both operators.
-    pub(crate) fn run_item(
-        &mut self,
-        alloc: Global,
-        side: Side,
-        item: Item,
         to: &mut Operator,
         to_side: Side,
-    ) -> Result<(), AllocError>
-        requires may { MayTake self.old.kind self.old.state side item }
-        requires puts { MayPut (outs_from self.old.kind self.old.state side item) to.old to_side }
-        ensures keeps { KeepsInboxes self.old self.new }
-        ensures next { OnOk result (IsAfterItem self.old.state side item self.new.state) }
-        ensures put { OnOk result
-            (HasPutTo (outs_from self.old.kind self.old.state side item) to.old to_side to.new) }
-        ensures fits { FitsState self.old.state item (near_of self.old.state side item) }
+    ) -> Result<(), Refused>
+        requires front { IsRunnable rows log.now (inbox_of self.old side) }
+        requires may { MayTakeFirst self.old.kind self.old.state side rows log.now
+            (inbox_of self.old side) }
+        requires come { MayComeFirst self.old.kind self.old.state side rows log.now
+            (inbox_of self.old side) (inbox_of to.old to_side) }
+        ensures ok { OnOk result (HasRunFirst self.old.kind side rows log.now
+            self.old.state (inbox_of self.old side) (inbox_of to.old to_side)
+            self.new.state (inbox_of self.new side) (inbox_of to.new to_side)) }
+        ensures kept { IsElse side self.old self.new }
+        ensures above { IsAbove to_side to.old to.new }
+        ensures err { IfErr result (λ refused. Stops refused (self.new ≡ self.old)
+            (HasTakenFirst rows log.now self.old.state (inbox_of self.old side)
+            self.new.state (inbox_of self.new side))) }
+        ensures same { OnErr result (to.new ≡ to.old) }
     {
         match to_side {
-            Side::Left => self
-                .state
-                .run_into(alloc, &self.kind, side, item, &mut to.left),
-            Side::Right => self
-                .state
-                .run_into(alloc, &self.kind, side, item, &mut to.right),
+            Side::Left => self.run_to(alloc, log, side, rows, &mut to.left),
+            Side::Right => self.run_to(alloc, log, side, rows, &mut to.right),
         }
     }
 
-    /// Takes an item that has left its queue, at a root, and appends the turn's answers to those
-    /// that wait.
+    /// Does so with the inbox of the operator above.
+    fn run_to(
+        &mut self,
+        alloc: Global,
+        log: &Log,
+        side: Side,
+        rows: usize,
+        to: &mut Inbox,
+    ) -> Result<(), Refused>
+        requires front { IsRunnable rows log.now (inbox_of self.old side) }
+        requires may { MayTakeFirst self.old.kind self.old.state side rows log.now
+            (inbox_of self.old side) }
+        requires come { MayComeFirst self.old.kind self.old.state side rows log.now
+            (inbox_of self.old side) to.old }
+        ensures ok { OnOk result (HasRunFirst self.old.kind side rows log.now
+            self.old.state (inbox_of self.old side) to.old
+            self.new.state (inbox_of self.new side) to.new) }
+        ensures kept { IsElse side self.old self.new }
+        ensures err { IfErr result (λ refused. Stops refused (self.new ≡ self.old)
+            (HasTakenFirst rows log.now self.old.state (inbox_of self.old side)
+            self.new.state (inbox_of self.new side))) }
+        ensures same { OnErr result (to.new ≡ to.old) }
+    {
+        match side {
+            Side::Left => self
+                .state
+                .run_first(alloc, &self.kind, side, log, rows, &mut self.left, to),
+            Side::Right => self
+                .state
+                .run_first(alloc, &self.kind, side, log, rows, &mut self.right, to),
+        }
+    }
+
+    /// Takes what stands first on a side of a root, and appends the turn's answers to those that
+    /// wait.
     ///
     /// # Errors
-    /// `AllocError` when out of memory. The answers are as they were, but you can only drop the
-    /// operator.
-    pub(crate) fn answer_item(
+    /// `Refused` when out of memory; then the answers are as they were. At `Before` the operator
+    /// is. At `Within` it has taken some of the rows, which have left.
+    pub(crate) fn answer_first(
         &mut self,
-        item: &Item,
+        alloc: Global,
+        log: &Log,
+        side: Side,
+        rows: usize,
         answers: &mut DatedRows,
-    ) -> Result<(), AllocError>
-        requires { MayAnswer self.old.state item.now }
-        ensures keeps { KeepsInboxes self.old self.new }
-        ensures next { OnOk result (self.new.state ≡ after_answers self.old.state item.now) }
-        ensures given { OnOk result (answers.new
-            ≡ answers.old ++ answers_from self.old.state item.now) }
-        ensures answers { OnErr result (answers.new ≡ answers.old) }
+    ) -> Result<(), Refused>
+        requires front { IsRunnable rows log.now (inbox_of self.old side) }
+        requires may { MayAnswerFirst self.old.state rows log.now (inbox_of self.old side) }
+        ensures ok { OnOk result (HasAnsweredFirst rows log.now
+            self.old.state (inbox_of self.old side) answers.old
+            self.new.state (inbox_of self.new side) answers.new) }
+        ensures kept { IsElse side self.old self.new }
+        ensures err { IfErr result (λ refused. Stops refused (self.new ≡ self.old)
+            (HasTakenFirst rows log.now self.old.state (inbox_of self.old side)
+            self.new.state (inbox_of self.new side))) }
+        ensures same { OnErr result (answers.new ≡ answers.old) }
     {
-        self.state.answer(item, answers)
+        match side {
+            Side::Left => self
+                .state
+                .answer_first(alloc, log, rows, &mut self.left, answers),
+            Side::Right => self
+                .state
+                .answer_first(alloc, log, rows, &mut self.right, answers),
+        }
     }
 
     fn inbox(&self, side: Side) -> &Inbox

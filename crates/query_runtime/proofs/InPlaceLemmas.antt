@@ -1,5 +1,5 @@
 -- A query whose operator has run a turn in place.
-use Rattle.std.proofs.Common.{◌≡◌, ◌∙◌, ℕ, ◌++◌, min, true, false, Result, Ok, Err, IfErr, OnErr, List, sym, ap, refl, subst, arith}
+use Rattle.std.proofs.Common.{◌≡◌, ◌∙◌, ℕ, ◌<◌, ◌++◌, min, true, false, Result, Ok, Err, IfErr, OnErr, List, sym, ap, refl, subst, arith}
 use Rattle.std.specs.Prelude.{⊤}
 use Rattle.values.specs.Row.{Row}
 use Rattle.column.specs.declared.batch.Side.{Side}
@@ -14,7 +14,7 @@ use Rattle.turn.specs.declared.kinds.Kind.{Kind}
 use Rattle.turn.specs.declared.kinds.Kind.TheVariants as kind
 use Rattle.operators.specs.Operators.{PlainOperator, waiting}
 use Rattle.operators.specs.Runs as runs
-use Rattle.operators.specs.Runs.{GivesFirst, HasItem, HasPutTo, HasRunBelow, HasRunRoot, IsGiven, IsInHand, MayPut, MayPutFirst, MayRun, Stops, is_root}
+use Rattle.operators.specs.Runs.{GivesFirst, HasPutTo, HasRunBelow, HasRunBelowLess, HasRunRoot, HasRunRootLess, IsGiven, IsInHand, MayPut, MayPutFirst, MayRun, Stops, is_root}
 use Rattle.operators.specs.States.{near_of}
 use Rattle.operators.specs.declared.runs.Refused.{Refused}
 use Rattle.operators.specs.declared.runs.Refused.TheVariants.{Before, Within}
@@ -22,7 +22,7 @@ use Rattle.physical_plans.specs.declared.wiring.Wire.{Wire}
 use Rattle.reference.specs.Machine.{Stream}
 use Rattle.laws_queries.specs.Queries.{MayFeed, MayFinish, PlainQuery, change_at_first, operator_at}
 use Rattle.laws_queries.specs.Steps.{IsFirst}
-use Rattle.query_runtime.specs.Runs.{CanRun, HasRun, HasRunItem, IsRunItem, KeepsOuts, OnlyAtBoth}
+use Rattle.query_runtime.specs.Runs.{CanRun, HasRun, HasRunLess, IsRunItem, KeepsOuts, OnlyAtBoth}
 use Rattle.query_runtime.specs.Turns.{CanFeed, CanPut, HasAnswered, HasFed, HasPut, OnlyAt, log_of, wire_at}
 use Rattle.query_runtime.proofs.LeaseLemmas.{part_first, part_leased}
 
@@ -121,7 +121,7 @@ module _ (streams : List Stream) (p : PlainQuery) (k : ℕ) (side : Side) (rows 
     within = can.within;
     takes = λ i part.
         let m : MayFinish o log side i = can.lease.may i (first i part) in
-        record { belongs = m.belongs; columns = m.may.columns; named = m.may.named; takes = m.may.takes };
+        record { belongs = m.belongs; columns = m.may.columns; named = m.may.named; takes = m.may.takes; stood = m.may.stood };
   }
 
   puts : is_root o.kind ≡ false → (i : Item) → PutsOut o.kind side i (near_of o.state side i)
@@ -143,10 +143,6 @@ module _ (streams : List Stream) (p : PlainQuery) (k : ℕ) (side : Side) (rows 
   -- THE ITEM in hand is what a lease would hand out
   run_item : (i : Item) → IsInHand o log side n i → IsRunItem o log side rows i
   run_item i h = part_leased rows n o log side i (near_of o.state side i) e can.lease h.part h.cut refl h.fits
-
-  pub stops : (r : Refused) (same also : Type 0) → (same → also) → Stops r same (HasItem o log side n) → Stops r also (HasRunItem o log side rows)
-  stops Before same also f h = f h
-  stops Within same also f h = (h.0, run_item h.0 h.1)
 
   -- AFTER IT, below the root
   pub has_run_below : is_root o.kind ≡ false → (os : List PlainOperator)
@@ -184,6 +180,35 @@ module _ (streams : List Stream) (p : PlainQuery) (k : ℕ) (side : Side) (rows 
         batches = subst (λ out. KeepsOuts p k out (record p { operators = os; answers = answers })) (sym g.is) tt;
       }
 
+-- OF FEWER ROWS it may run a turn, too
+can_less : (streams : List Stream) (p : PlainQuery) (k : ℕ) (side : Side) (rows count : ℕ) → 0 < count → CanRun streams p k side rows → CanRun streams p k side count
+can_less streams p k side rows count some can = record {
+  lease = record { usable = can.lease.usable; waits = can.lease.waits; some = some; may = can.lease.may };
+  within = can.within;
+  leads = can.leads;
+  puts = can.puts;
+}
+
+module _ (streams : List Stream) (p : PlainQuery) (k : ℕ) (side : Side) (rows n : ℕ) (e : n ≡ min rows 1024) (can : CanRun streams p k side rows) (os : List PlainOperator) where
+  pub has_run_below_less : is_root (operator_at p.operators k).kind ≡ false
+      → HasRunBelowLess (operator_at p.operators k) (log_of streams p k) side n (operator_at p.operators (wire_at p k).to) (wire_at p k).side (operator_at os k) (operator_at os (wire_at p k).to)
+      → OnlyAtBoth k (wire_at p k).to p.operators os → HasRunLess streams p k side rows (record p { operators = os })
+  has_run_below_less below r only = record {
+    count = r.count;
+    some = r.some;
+    fewer = omega (arith, e, r.fewer);
+    run = has_run_below streams p k side r.count r.count (omega (arith, e, r.fewer)) (can_less streams p k side rows r.count r.some can) below os r.run only;
+  }
+
+  pub has_run_root_less : (answers : List (ℕ × Row)) → is_root (operator_at p.operators k).kind ≡ true → HasRunRootLess (operator_at p.operators k) (log_of streams p k) side n p.answers (operator_at os k) answers → OnlyAt k p.operators os
+      → HasRunLess streams p k side rows (record p { operators = os; answers = answers })
+  has_run_root_less answers root r only = record {
+    count = r.count;
+    some = r.some;
+    fewer = omega (arith, e, r.fewer);
+    run = has_run_root streams p k side r.count r.count (omega (arith, e, r.fewer)) (can_less streams p k side rows r.count r.some can) root os answers r.run only;
+  }
+
 -- OF THE CODE'S QUERY, with a log and a wire that it looked up
 module _ (streams : List Stream) (q p : PlainQuery) (same : q ≡ p) (k : ℕ) (side : Side) (rows n : ℕ) (e : n ≡ min rows 1024) (can : CanRun streams p k side rows) (read : Closed) (log_is : read ≡ log_of streams p k) where
   pub runs_here : MayRun (operator_at q.operators k) read side n
@@ -193,11 +218,6 @@ module _ (streams : List Stream) (q p : PlainQuery) (same : q ≡ p) (k : ℕ) (
   gives_here root =
       subst (λ z. GivesFirst (operator_at q.operators k) z side n) (sym log_is)
       (subst (λ (z : PlainQuery). GivesFirst (operator_at z.operators k) (log_of streams p k) side n) (sym same) (gives_first streams p k side rows n e can root))
-
-  stops_here : (r : Refused) (before also : Type 0) → (before → also) → Stops r before (HasItem (operator_at q.operators k) read side n) → Stops r also (HasRunItem (operator_at p.operators k) (log_of streams p k) side rows)
-  stops_here r before also f h =
-      stops streams p k side rows n e can r before also f
-      (subst (λ (z : PlainQuery). Stops r before (HasItem (operator_at z.operators k) (log_of streams p k) side n)) same (subst (λ z. Stops r before (HasItem (operator_at q.operators k) z side n)) log_is h))
 
   module _ (w : Wire) (wire_is : w ≡ wire_at p k) (below : is_root (operator_at p.operators k).kind ≡ false) where
     pub puts_here : MayPutFirst (operator_at q.operators k) read side n (operator_at q.operators w.to) w.side
@@ -216,9 +236,16 @@ module _ (streams : List Stream) (q p : PlainQuery) (same : q ≡ p) (k : ℕ) (
           let o : OnlyAtBoth k (wire_at p k).to p.operators os = subst (λ (z : PlainQuery). OnlyAtBoth k (wire_at p k).to z.operators os) same (subst (λ (x : Wire). OnlyAtBoth k x.to q.operators os) wire_is only) in
           subst (λ (z : PlainQuery). HasRun streams p k side rows (record z { operators = os })) (sym same) (has_run_below streams p k side rows n e can below os a o)
 
-  pub stopped_below : (r : Refused) (os : List PlainOperator) → Stops r (os ≡ q.operators) (HasItem (operator_at q.operators k) read side n)
-      → Stops r (record q { operators = os } ≡ p) (HasRunItem (operator_at p.operators k) (log_of streams p k) side rows)
-  stopped_below r os h = stops_here r (os ≡ q.operators) (record q { operators = os } ≡ p) (λ x. ap (λ z. record q { operators = z }) x ∙ same) h
+      abbrev RanLess : PlainQuery → Closed → Wire → Type 0
+      RanLess z l x = HasRunBelowLess (operator_at z.operators k) l side n (operator_at z.operators x.to) x.side (operator_at os k) (operator_at os x.to)
+
+      pub stopped_below : (r : Refused) → Stops r (os ≡ q.operators) (RanLess q read w) → OnlyAtBoth k w.to q.operators os → Stops r (record q { operators = os } ≡ p) (HasRunLess streams p k side rows (record q { operators = os }))
+      stopped_below Before h only = ap (λ z. record q { operators = z }) h ∙ same
+      stopped_below Within h only =
+          let a : RanLess p (log_of streams p k) (wire_at p k) =
+          subst (λ (z : PlainQuery). RanLess z (log_of streams p k) (wire_at p k)) same (subst (λ l. RanLess q l (wire_at p k)) log_is (subst (RanLess q read) wire_is h)) in
+          let o : OnlyAtBoth k (wire_at p k).to p.operators os = subst (λ (z : PlainQuery). OnlyAtBoth k (wire_at p k).to z.operators os) same (subst (λ (x : Wire). OnlyAtBoth k x.to q.operators os) wire_is only) in
+          subst (λ (z : PlainQuery). HasRunLess streams p k side rows (record z { operators = os })) (sym same) (has_run_below_less streams p k side rows n e can os below a o)
 
   module _ (os : List PlainOperator) (answers : List (ℕ × Row)) where
     abbrev RanRoot : PlainQuery → Closed → Type 0
@@ -230,7 +257,14 @@ module _ (streams : List Stream) (q p : PlainQuery) (same : q ≡ p) (k : ℕ) (
         let o : OnlyAt k p.operators os = subst (λ (z : PlainQuery). OnlyAt k z.operators os) same only in
         subst (λ (z : PlainQuery). HasRun streams p k side rows (record z { operators = os; answers = answers })) (sym same) (has_run_root streams p k side rows n e can root os answers a o)
 
-    pub stopped_root : (result : Result ⊤ Refused) → IfErr result (λ r. Stops r (os ≡ q.operators) (HasItem (operator_at q.operators k) read side n)) → OnErr result (answers ≡ q.answers)
-        → IfErr result (λ r. Stops r (record q { operators = os; answers = answers } ≡ p) (HasRunItem (operator_at p.operators k) (log_of streams p k) side rows))
-    stopped_root (Ok u) h is = tt
-    stopped_root (Err r) h is = stops_here r (os ≡ q.operators) (record q { operators = os; answers = answers } ≡ p) (λ x. ap (λ z. record q { operators = z; answers = answers }) x ∙ ap (λ z. record q { answers = z }) is ∙ same) h
+    abbrev RanRootLess : PlainQuery → Closed → Type 0
+    RanRootLess z l = HasRunRootLess (operator_at z.operators k) l side n z.answers (operator_at os k) answers
+
+    pub stopped_root : is_root (operator_at p.operators k).kind ≡ true → (result : Result ⊤ Refused) → IfErr result (λ r. Stops r (os ≡ q.operators) (RanRootLess q read)) → OnlyAt k q.operators os → OnErr result (answers ≡ q.answers)
+        → IfErr result (λ r. Stops r (record q { operators = os; answers = answers } ≡ p) (HasRunLess streams p k side rows (record q { operators = os; answers = answers })))
+    stopped_root root (Ok u) h only is = tt
+    stopped_root root (Err Before) h only is = ap (λ z. record q { operators = z; answers = answers }) h ∙ ap (λ z. record q { answers = z }) is ∙ same
+    stopped_root root (Err Within) h only is =
+        let a : RanRootLess p (log_of streams p k) = subst (λ (z : PlainQuery). RanRootLess z (log_of streams p k)) same (subst (RanRootLess q) log_is h) in
+        let o : OnlyAt k p.operators os = subst (λ (z : PlainQuery). OnlyAt k z.operators os) same only in
+        subst (λ (z : PlainQuery). HasRunLess streams p k side rows (record z { operators = os; answers = answers })) (sym same) (has_run_root_less streams p k side rows n e can os answers root a o)

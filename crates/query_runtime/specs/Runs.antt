@@ -34,9 +34,6 @@ pub record CanRun (streams : List Stream) (p : PlainQuery) (k : ℕ) (side : Sid
 abbrev pub IsRunItem : PlainOperator → Closed → Side → ℕ → Item → Type 0
 IsRunItem o log side rows i = IsLeased o log side rows i (near_of o.state side i)
 
-abbrev pub HasRunItem : PlainOperator → Closed → Side → ℕ → Type 0
-HasRunItem o log side rows = (i : Item) × IsRunItem o log side rows i
-
 -- items that were put out wait above in the batches in which they came
 abbrev pub KeepsOuts : PlainQuery → ℕ → Outs → PlainQuery → Type 0
 KeepsOuts p k (Put es) p2 = (items : List Item)
@@ -53,6 +50,14 @@ pub record HasRun (streams : List Stream) (p : PlainQuery) (k : ℕ) (side : Sid
       (change_at_first (operator_at p.operators k) side item) p2
   pub put : HasPut p k (outs_at_first (operator_at p.operators k) side item) p2
   pub batches : KeepsOuts p k (outs_at_first (operator_at p.operators k) side item) p2
+
+-- AFTER A RUN that ran out of memory: it was one of fewer rows
+pub record HasRunLess (streams : List Stream) (p : PlainQuery) (k : ℕ) (side : Side) (rows : ℕ)
+    (p2 : PlainQuery) : Type 0 where
+  pub count : ℕ
+  pub some : 0 < count
+  pub fewer : count < rows
+  pub run : HasRun streams p k side count p2
 
 -- only the operators of these two numbers are others
 pub record OnlyAtBoth (k n : ℕ) (os os2 : List PlainOperator) : Type 0 where

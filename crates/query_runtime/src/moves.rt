@@ -3,8 +3,8 @@ ghost use Rattle.std.specs.Prelude.{◌≡◌, ℕ, ◌<◌, length, min, IfErr,
 ghost use Rattle.operators.specs.Inboxes.{all_entries};
 ghost use Rattle.operators.specs.Operators.{IsFed, IsFinished, KeepsBatches};
 ghost use Rattle.operators.specs.Passing.{IsPassed, IsQuiet};
-ghost use Rattle.operators.specs.Runs.{GivesFirst, HasItem, HasRunBelow, HasRunRoot, MayPutFirst};
-ghost use Rattle.operators.specs.Runs.{MayRun, Stops};
+ghost use Rattle.operators.specs.Runs.{GivesFirst, HasRunBelow, HasRunBelowLess, HasRunRoot};
+ghost use Rattle.operators.specs.Runs.{HasRunRootLess, MayPutFirst, MayRun, Stops};
 ghost use Rattle.laws_queries.specs.Queries.{MayFeed, operator_at, stream_log};
 ghost use Rattle.query_runtime.specs.Runs.{OnlyAtBoth};
 ghost use Rattle.query_runtime.specs.Turns.{CanFinish, CanLease, IsLeased, OnlyAt};
@@ -139,7 +139,9 @@ pub(crate) fn run_below_at(
     ensures only { OnlyAtBoth number wire.to operators.old.items operators.new.items }
     ensures err { IfErr result (λ refused. Stops refused
         (operators.new.items ≡ operators.old.items)
-        (HasItem (operator_at operators.old.items number) log.now side rows)) }
+        (HasRunBelowLess (operator_at operators.old.items number) log.now side rows
+        (operator_at operators.old.items wire.to) wire.side
+        (operator_at operators.new.items number) (operator_at operators.new.items wire.to))) }
 {
     let (below, above) = operators.split_at_mut(wire.to);
     below[number].run_below(alloc, log, side, rows, &mut above[0], wire.side)
@@ -164,7 +166,8 @@ pub(crate) fn run_root_at(
     ensures only { OnlyAt number operators.old.items operators.new.items }
     ensures err { IfErr result (λ refused. Stops refused
         (operators.new.items ≡ operators.old.items)
-        (HasItem (operator_at operators.old.items number) log.now side rows)) }
+        (HasRunRootLess (operator_at operators.old.items number) log.now side rows answers.old
+        (operator_at operators.new.items number) answers.new)) }
     ensures answers { OnErr result (answers.new ≡ answers.old) }
 {
     answers.run_root(alloc, &mut operators[number], log, side, rows)

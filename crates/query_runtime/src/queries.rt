@@ -15,7 +15,7 @@ ghost use Rattle.reference.specs.World.{handed};
 ghost use Rattle.laws_queries.specs.Queries.{operator_at};
 ghost use Rattle.operators.specs.Passing.{MayPass};
 ghost use Rattle.query_runtime.specs.Passing.{AreQuiet, HasOperators, HavePassed, MayPassAll};
-ghost use Rattle.query_runtime.specs.Runs.{CanRun, HasRun, HasRunItem};
+ghost use Rattle.query_runtime.specs.Runs.{CanRun, HasRun, HasRunLess};
 ghost use Rattle.query_runtime.specs.Turns.{CanFeed, CanFinish, CanLease, CanPut, HasAnswered};
 ghost use Rattle.query_runtime.specs.Turns.{HasFed, HasFinished, HasBatches, HasOperator, HasPut};
 ghost use Rattle.query_runtime.specs.Turns.{IsBeginning, IsLeased, handed_out, log_of, source_at};
@@ -232,8 +232,7 @@ impl RunningQuery {
     ///
     /// # Errors
     /// `Refused::Before` when out of memory before anything was taken; then nothing has changed.
-    /// `Refused::Within` when out of memory later. Then only the answers are as they were, and the
-    /// query can only be given up.
+    /// `Refused::Within` when out of memory later. Then it was a turn of fewer rows, without answers.
     pub fn run(
         &mut self,
         alloc: Global,
@@ -246,8 +245,7 @@ impl RunningQuery {
         requires may { CanRun streams.now self.old operator side rows }
         ensures ok { OnOk result (HasRun streams.now self.old operator side rows self.new) }
         ensures err { IfErr result (λ refused. Stops refused (self.new ≡ self.old)
-            (HasRunItem (operator_at self.old.operators operator)
-            (log_of streams.now self.old operator) side rows)) }
+            (HasRunLess streams.now self.old operator side rows self.new)) }
         ensures answers { OnErr result (self.new.answers ≡ self.old.answers) }
     {
         if self.operator(operator).is_root() {
@@ -454,8 +452,7 @@ impl RunningQuery {
         requires below { is_root (operator_at self.old.operators operator).kind ≡ false }
         ensures ok { OnOk result (HasRun streams.now self.old operator side rows self.new) }
         ensures err { IfErr result (λ refused. Stops refused (self.new ≡ self.old)
-            (HasRunItem (operator_at self.old.operators operator)
-            (log_of streams.now self.old operator) side rows)) }
+            (HasRunLess streams.now self.old operator side rows self.new)) }
         ensures answers { OnErr result (self.new.answers ≡ self.old.answers) }
     {
         let rows = within_a_batch(rows);
@@ -478,8 +475,7 @@ impl RunningQuery {
         requires root { is_root (operator_at self.old.operators operator).kind ≡ true }
         ensures ok { OnOk result (HasRun streams.now self.old operator side rows self.new) }
         ensures err { IfErr result (λ refused. Stops refused (self.new ≡ self.old)
-            (HasRunItem (operator_at self.old.operators operator)
-            (log_of streams.now self.old operator) side rows)) }
+            (HasRunLess streams.now self.old operator side rows self.new)) }
         ensures answers { OnErr result (self.new.answers ≡ self.old.answers) }
     {
         let rows = within_a_batch(rows);

@@ -1,7 +1,7 @@
 //! Keeps answers that wait to be taken.
 ghost use Rattle.std.specs.Prelude.{◌≡◌, ◌≤◌, ◌+◌, ◌++◌, [], true, length, take, drop};
 ghost use Rattle.std.specs.Prelude.{IfErr, IfOk, OnErr, OnOk, vec_len, vec_capacity};
-ghost use Rattle.operators.specs.Runs.{GivesFirst, HasItem, HasRunRoot, MayRun, Stops};
+ghost use Rattle.operators.specs.Runs.{GivesFirst, HasRunRoot, HasRunRootLess, MayRun, Stops};
 ghost use Rattle.reference.specs.CallViews.{handed_of};
 ghost use Rattle.reference.specs.Inputs.{are_signed};
 ghost use Rattle.reference.specs.World.{handed};
@@ -75,7 +75,8 @@ impl WaitingAnswers {
     /// Runs a turn of a root. What it answers follows the others.
     ///
     /// # Errors
-    /// `Refused` when out of memory; then the answers are as they were.
+    /// `Refused` when out of memory; then the answers are as they were. At `Before` the root is. At
+    /// `Within` it was a turn of fewer rows.
     pub(crate) fn run_root(
         &mut self,
         alloc: Global,
@@ -89,7 +90,7 @@ impl WaitingAnswers {
         ensures ok { OnOk result
             (HasRunRoot root.old log.now side rows self.old root.new self.new) }
         ensures err { IfErr result (λ refused. Stops refused (root.new ≡ root.old)
-            (HasItem root.old log.now side rows)) }
+            (HasRunRootLess root.old log.now side rows self.old root.new self.new)) }
         ensures answers { OnErr result (self.new ≡ self.old) }
     {
         root.run_root(alloc, log, side, rows, &mut self.answers)

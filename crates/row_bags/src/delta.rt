@@ -1,6 +1,6 @@
 //! Keeps what entered and what left.
 ghost use Rattle.std.specs.Prelude.{◌≡◌, ◌↔◌, ◌+◌, ◌^◌, ◌<◌, ◌++◌, ◌∷◌, [], length, map};
-ghost use Rattle.std.specs.Prelude.{slice_index_or, true, IfOk, IsTrue, OnOk, OnErr};
+ghost use Rattle.std.specs.Prelude.{slice_index_or, take, true, IfErr, IfOk, IsTrue, OnOk, OnErr};
 ghost use Rattle.column.specs.Rows.{signed};
 ghost use Rattle.values.specs.Row.{row_cmp};
 ghost use Rattle.values.specs.Bag.{bag_minus, in_order};
@@ -191,11 +191,32 @@ impl Delta {
         Ok(())
     }
 
+    /// Takes in the signed rows of a batch, each whole or not at all.
+    ///
+    /// # Errors
+    /// The number of rows that were taken in, when out of memory; those after them were not.
+    pub fn apply_rows(&mut self, batch: &Batch) -> Result<(), usize>
+        ensures ok { OnOk result (self.new ≡ deltas_after self.old batch.now) }
+        ensures fewer { IfErr result (λ n. n < length batch.now) }
+        ensures some { IfErr result (λ n. self.new ≡ deltas_after self.old (take n batch.now)) }
+    {
+        for place in 0..batch.len() {
+            if self.apply_at(batch, place).is_err() {
+                return Err(place);
+            }
+        }
+        Ok(())
+    }
+
     /// Takes in the signed row at a place of a batch.
+    ///
+    /// # Errors
+    /// `AllocError` when out of memory; then nothing has changed.
     fn apply_at(&mut self, batch: &Batch, place: usize) -> Result<(), AllocError>
         requires { place < length batch.now }
-        ensures { OnOk result (self.new
+        ensures ok { OnOk result (self.new
             ≡ delta_after self.old (slice_index_or batch.now place (true, []))) }
+        ensures err { OnErr result (self.new ≡ self.old) }
     {
         if batch.leaves(place) {
             add_at(self.alloc, &mut self.left, batch, place)?;
@@ -218,8 +239,9 @@ fn add(alloc: Global, pile: &mut Pile, row: &Row) -> Result<(), AllocError>
 /// Adds the row at a place of a batch to the pile.
 fn add_at(alloc: Global, pile: &mut Pile, batch: &Batch, place: usize) -> Result<(), AllocError>
     requires { place < length batch.now }
-    ensures { OnOk result (pile_in pile.new
+    ensures ok { OnOk result (pile_in pile.new
         ≡ pile_in pile.old ++ (slice_index_or batch.now place (true, [])).1 ∷ []) }
+    ensures err { OnErr result (pile_in pile.new ≡ pile_in pile.old) }
 {
     let _count = batch.len(); // for the proof
     pile.make_room(alloc, batch.width())?;

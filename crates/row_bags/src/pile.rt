@@ -96,8 +96,9 @@ impl Pile {
     pub(crate) fn push_at(&mut self, batch: &Batch, place: usize) -> Result<(), AllocError>
         requires within { place < length batch.now }
         requires room { width batch.now ≤ pile_room self.old }
-        ensures { OnOk result (pile_in self.new
+        ensures ok { OnOk result (pile_in self.new
             ≡ pile_in self.old ++ (slice_index_or batch.now place (true, [])).1 ∷ []) }
+        ensures err { OnErr result (pile_in self.new ≡ pile_in self.old) }
     {
         with_rows!(self, rows => push_row_at(rows, batch, place))
     }
@@ -196,8 +197,9 @@ fn push_row_at<const N: usize>(
 ) -> Result<(), AllocError>
     requires within { place < length batch.now }
     requires room { (width batch.now ≤ N) × (N ≤ MAX_COLUMNS) }
-    ensures { OnOk result (rows_of rows.new.items
+    ensures ok { OnOk result (rows_of rows.new.items
         ≡ rows_of rows.old.items ++ (slice_index_or batch.now place (true, [])).1 ∷ []) }
+    ensures err { OnErr result (rows_of rows.new.items ≡ rows_of rows.old.items) }
 {
     rows.push(values_at(batch, place))?;
     Ok(())

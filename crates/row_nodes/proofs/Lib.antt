@@ -2,3 +2,4 @@ pub mod StepLemmas
 pub mod SelectLemmas
 pub mod RowLemmas
 pub mod PushLemmas
+pub mod FrontLemmas

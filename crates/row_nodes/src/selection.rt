@@ -1,12 +1,15 @@
 //! Keeps the rows at which a condition is true.
-ghost use Rattle.std.specs.Prelude.{◌≡◌, ◌++◌, IfOk, OnErr, OnOk, length, map};
+ghost use Rattle.std.specs.Prelude.{◌≡◌, ◌<◌, ◌++◌, IfOk, OnErr, OnOk, length, map};
+ghost use Rattle.std.specs.Bool.{OnFalse, OnTrue};
 ghost use Rattle.std.specs.List.{flat_map};
 ghost use Rattle.column.specs.Bits.{word_count};
 ghost use Rattle.column.specs.Rows.{width};
 ghost use Rattle.lane_kernels.specs.Steps.{StepsFit};
 ghost use Rattle.op_queue.specs.Entries.{IsForward};
-ghost use Rattle.op_queue.specs.Items.{entries_of};
+ghost use Rattle.op_queue.specs.Items.{IsFrontPart, entries_of};
 ghost use Rattle.op_queue.specs.Queues.{HasGained};
+ghost use Rattle.op_queue.specs.declared.item.Item.{Item as PlainItem};
+ghost use Rattle.row_nodes.specs.Fronts.{HasGoneOn};
 ghost use Rattle.row_nodes.specs.Select.{FitItem, is_kept, selected};
 
 use crate::outputs::one;
@@ -75,6 +78,66 @@ pub fn run_select(
         }
         Item::Tick(at) => queue.push(Item::Tick(at)),
     }
+}
+
+/// Takes what stands first in a queue, a tick or at most `rows` rows, and pushes what Select emits
+/// at it to the back of another queue. A batch that leaves whole is moved; the rows that are not
+/// kept are dropped.
+///
+/// # Errors
+/// `AllocError` when out of memory; then both queues are as they were.
+pub fn select_front(
+    alloc: Global,
+    steps: &[Step],
+    rows: usize,
+    from: &mut Queue,
+    to: &mut Queue,
+) -> Result<(), AllocError>
+    requires waits { 0 < length from.old.entries }
+    requires some { 0 < rows }
+    requires fits { (i : PlainItem) → IsFrontPart rows from.old.entries i
+        → FitItem steps.now i }
+    requires forward { (i : PlainItem) → IsFrontPart rows from.old.entries i
+        → IsForward (to.old.entries ++ selected steps.now i) }
+    ensures ok { OnOk result
+        (HasGoneOn rows (selected steps.now) from.old to.old from.new to.new) }
+    ensures err { OnErr result ((from.new ≡ from.old) × (to.new ≡ to.old)) }
+{
+    if select_whole(alloc, steps, rows, from, to)? {
+        return Ok(());
+    }
+    let item = from.front_cut(alloc, rows)?;
+    let count = item.len();
+    run_select(alloc, steps, item, to)?;
+    from.drop_front(count);
+    Ok(())
+}
+
+/// Does so where a batch stands first that leaves whole. Returns whether one did; else nothing has
+/// changed.
+fn select_whole(
+    alloc: Global,
+    steps: &[Step],
+    rows: usize,
+    from: &mut Queue,
+    to: &mut Queue,
+) -> Result<bool, AllocError>
+    requires some { 0 < rows }
+    requires fits { (i : PlainItem) → IsFrontPart rows from.old.entries i
+        → FitItem steps.now i }
+    requires forward { (i : PlainItem) → IsFrontPart rows from.old.entries i
+        → IsForward (to.old.entries ++ selected steps.now i) }
+    ensures moved { IfOk result (λ moved. OnTrue moved
+        (HasGoneOn rows (selected steps.now) from.old to.old from.new to.new)) }
+    ensures stays { IfOk result (λ moved.
+        OnFalse moved ((from.new ≡ from.old) × (to.new ≡ to.old))) }
+    ensures err { OnErr result ((from.new ≡ from.old) × (to.new ≡ to.old)) }
+{
+    let Some((_, batch)) = from.front_batch(rows) else {
+        return Ok(false);
+    };
+    let mask = kept(alloc, steps, batch)?;
+    from.move_front(&mask, to)
 }
 
 /// Returns which rows are kept.

@@ -18,8 +18,7 @@ pub(crate) struct Client {
     registered: u64,
     /// Says whether its drains are made of turns that go out.
     by_turns: bool,
-    /// Counts the calls that ran out of memory and may break a query: drains that ran turns, and
-    /// turns that came back.
+    /// Counts the turns that came back when memory ran out, each of which breaks its query.
     pub(crate) breaking: usize,
     /// Says whether a drain ran out of memory before its first turn took anything.
     pub(crate) has_spared: bool,
@@ -55,15 +54,13 @@ impl Client {
     }
 
     /// Fails if the engine shows what a drain may not leave that ran out of memory. The drain may
-    /// have run turns, and have broken one query, whose queues are then empty. So it broke none if
-    /// the engine shows what it showed before.
+    /// have run turns, and breaks no query.
     fn expect_drained(&mut self, alloc: Global, before: &Look) -> Result<(), Stop> {
         let after = self.look(alloc)?;
         if before.is_same(&after) {
             self.has_spared = true;
             return Ok(());
         }
-        self.breaking = self.breaking.saturating_add(1);
         if before.goes_on_to(&after) {
             return Ok(());
         }
@@ -71,8 +68,7 @@ impl Client {
     }
 
     /// Returns what the engine answers to a request. If that runs out of memory, all has to be as
-    /// it was, but a drain may have broken a query and have run turns. Then the request is made
-    /// once more.
+    /// it was, but a drain may have run turns. Then the request is made once more.
     fn ask(&mut self, alloc: Global, request: &Request) -> Result<Reply, Stop> {
         let before = self.look(alloc)?;
         let reply = answer(&mut self.engine, request, ROWS);

@@ -1,6 +1,6 @@
 -- The law of one step of a root.
 use Rattle.std.specs.Prelude.{None}
-use Rattle.std.proofs.Common.{◌≡◌, ◌+◌, ◌<◌, ◌^◌, Bool, List, [], map, length, refl, ap, ap₂, sym, ◌∙◌, arith}
+use Rattle.std.proofs.Common.{◌≡◌, ◌+◌, ◌<◌, ◌^◌, Bool, List, [], map, length, refl, ap, ap₂, sym, ◌∙◌, subst, arith, Result, Ok, Err, OnOk}
 use Rattle.values.specs.Row.{Row, row_cmp}
 use Rattle.values.specs.Bag.{in_order, bag_minus}
 use Rattle.values.specs.Answers.{streamed}
@@ -15,8 +15,8 @@ use Rattle.row_bags.specs.Lists.{renewed}
 use Rattle.row_bags.proofs.ListLaws.{renewed-between}
 use Rattle.row_bags.proofs.DeltaLaws.{deltas-between, delta_between-none}
 use Rattle.row_bags.proofs.OrderLemmas.{length-in_order, length-bag_minus}
-use Rattle.to_stream.specs.Turns.{State, shown, kept, next, HasRoomFor}
-use Rattle.to_stream.specs.Law.{whole_of, Stands, StepLaw}
+use Rattle.to_stream.specs.Turns.{State, shown, kept, next, taken, HasRoomFor}
+use Rattle.to_stream.specs.Law.{whole_of, Stands, StepLaw, RowsLaw}
 
 -- of Rstream the relation of the last tick, with what left and entered, is the relation now
 renewed_now : (s : State) (before now : List Row) → s.delta ≡ delta_between before now → s.whole ≡ in_order row_cmp before → renewed s.whole s.delta ≡ in_order row_cmp now
@@ -41,6 +41,15 @@ step_law s (Tick t) =
       ap (λ (rows : List Row). map (λ r. (t, r)) rows) (shown_as s.operator s before now h.delta h.whole),
       record { delta = sym (delta_between-none now); whole = kept_as s.operator s before now h.delta h.whole },
     )
+
+-- the same of a state that is the next one
+pub law_of : (s new : State) (item : Item) → new ≡ next s item → StepLaw s item new
+law_of s new item e = subst (λ (n : State). StepLaw s item n) (sym e) (step_law s item)
+
+-- of rows that are all taken, whatever their instant
+pub rows_law : {A E : Type 0} (r : Result A E) (s new : State) (b : List (Bool × Row)) → OnOk r (new ≡ taken s b) → OnOk r (RowsLaw s b new)
+rows_law (Ok x) s new b h = λ t. law_of s new (Rows t b) h
+rows_law (Err e) s new b h = h
 
 -- a root that has taken nothing stands for no rows, before and now
 pub fresh_stands : (o : StreamOperator) → Stands (record { operator = o; delta = record { entered = []; left = [] }; whole = []; last = None }) [] []

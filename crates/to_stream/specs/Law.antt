@@ -1,5 +1,5 @@
 -- What a root's state stands for, and the law of one step.
-use Rattle.std.specs.Prelude.{◌≡◌, List, [], map}
+use Rattle.std.specs.Prelude.{ℕ, ◌≡◌, Bool, List, [], map}
 use Rattle.values.specs.Row.{Row, row_cmp}
 use Rattle.values.specs.Bag.{in_order}
 use Rattle.values.specs.Answers.{streamed}
@@ -33,3 +33,7 @@ StepLaw s (Tick t) new =
     → (out (Tick t) (near s (Tick t))
     ≡ map (λ r. (t, r)) (in_order row_cmp (streamed (operator_of s.operator) before now)))
     × Stands new now now
+
+-- the law of signed rows, whatever their instant
+abbrev pub RowsLaw : State → List (Bool × Row) → State → Type 0
+RowsLaw s b new = (t : ℕ) → StepLaw s (Rows t b) new

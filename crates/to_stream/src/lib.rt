@@ -13,12 +13,14 @@
 //! however many are held.
 #![tactic(auto)]
 
-ghost use Rattle.std.specs.Prelude.{◌≡◌, ◌↔◌, ◌+◌, ◌++◌, None, Some, [], map};
-ghost use Rattle.std.specs.Prelude.{IfOk, IsTrue, OnOk, OnErr};
-ghost use Rattle.to_stream.specs.Turns.{IsStill, State, shown, kept, near, out, ticked, next};
-ghost use Rattle.to_stream.specs.Turns.{HasRoom};
-ghost use Rattle.to_stream.specs.Law.{Stands, StepLaw};
+ghost use Rattle.std.specs.Prelude.{◌≡◌, ◌↔◌, ◌+◌, ◌++◌, ◌<◌, None, Some, [], length, map, take};
+ghost use Rattle.std.specs.Prelude.{IfErr, IfOk, IsTrue, OnOk, OnErr};
+ghost use Rattle.op_queue.specs.declared.item.Item.TheVariants.{Tick};
+ghost use Rattle.to_stream.specs.Turns.{IsStill, State, shown, kept, near, out, taken, ticked};
+ghost use Rattle.to_stream.specs.Turns.{HasRoom, HasRoomFor, next};
+ghost use Rattle.to_stream.specs.Law.{RowsLaw, Stands, StepLaw};
 
+use column::Batch;
 use op_queue::Item;
 use row_bags::{DatedRows, Delta, RowList};
 use std::alloc::{AllocError, Global};
@@ -186,8 +188,8 @@ impl ToStream {
     /// into the state.
     ///
     /// # Errors
-    /// `AllocError` when out of memory; then the answers are as they were. You can only drop the
-    /// state.
+    /// `AllocError` when out of memory; then the answers are as they were. A refused tick leaves
+    /// the state as it was. Of rows, some may have been taken in; you can only drop the state.
     pub fn run(&mut self, item: &Item, answers: &mut DatedRows) -> Result<(), AllocError>
         requires { HasRoom self.old item.now }
         ensures answers { OnOk result (answers.new
@@ -196,7 +198,45 @@ impl ToStream {
         ensures law { OnOk result (StepLaw self.old item.now self.new) }
         ensures err { OnErr result (answers.new ≡ answers.old) }
     {
-        self.turn(item, answers)?;
+        match item {
+            Item::Rows(_, batch) => match self.run_rows(batch) {
+                Ok(()) => Ok(()),
+                Err(_taken) => Err(AllocError),
+            },
+            Item::Tick(at) => self.run_tick(*at, answers),
+        }
+    }
+
+    /// Takes in the rows of a batch, each whole or not at all. Rows have no answers.
+    ///
+    /// # Errors
+    /// The number of rows that were taken in, when out of memory. Exactly these were; call again
+    /// with the others.
+    pub fn run_rows(&mut self, batch: &Batch) -> Result<(), usize>
+        requires { HasRoomFor self.old batch.now }
+        ensures ok { OnOk result (self.new ≡ taken self.old batch.now) }
+        ensures law { OnOk result (RowsLaw self.old batch.now self.new) }
+        ensures fewer { IfErr result (λ n. n < length batch.now) }
+        ensures some { IfErr result (λ n. self.new ≡ taken self.old (take n batch.now)) }
+    {
+        self.delta.apply_rows(batch)
+    }
+
+    /// Runs a tick in place. Pushes the answers after those that wait. The current relation becomes
+    /// that of the last tick.
+    ///
+    /// # Errors
+    /// `AllocError` when out of memory; then the state and the answers are as they were.
+    pub fn run_tick(&mut self, at: u64, answers: &mut DatedRows) -> Result<(), AllocError>
+        ensures answers { OnOk result (answers.new
+            ≡ answers.old ++ out (Tick at) (near self.old (Tick at))) }
+        ensures ok { OnOk result (self.new ≡ ticked self.old at) }
+        ensures law { OnOk result (StepLaw self.old (Tick at) self.new) }
+        ensures err { OnErr result (self.new ≡ self.old) }
+        ensures same { OnErr result (answers.new ≡ answers.old) }
+    {
+        self.put(at, answers)?;
+        self.end(at);
         Ok(())
     }
 
@@ -222,45 +262,19 @@ impl ToStream {
         self.end(at);
     }
 
-    fn turn(&mut self, item: &Item, answers: &mut DatedRows) -> Result<(), AllocError>
-        requires { HasRoom self.old item.now }
-        ensures answers { OnOk result (answers.new
-            ≡ answers.old ++ out item.now (near self.old item.now)) }
-        ensures state { OnOk result (self.new ≡ next self.old item.now) }
-        ensures err { OnErr result (answers.new ≡ answers.old) }
-    {
-        match item {
-            Item::Rows(_, batch) => self.delta.apply(batch)?,
-            Item::Tick(at) => self.answer(*at, answers)?,
-        }
-        Ok(())
-    }
-
-    /// Runs a tick in place.
-    ///
-    /// # Errors
-    /// `AllocError` when out of memory; then the answers are as they were.
-    fn answer(&mut self, at: u64, answers: &mut DatedRows) -> Result<(), AllocError>
-        ensures answers { OnOk result (answers.new
-            ≡ answers.old ++ map (λ r. (at, r))
-            (shown self.old.operator self.old.delta self.old.whole)) }
-        ensures state { OnOk result (self.new ≡ ticked self.old at) }
-        ensures err { OnErr result (answers.new ≡ answers.old) }
-    {
-        self.put(at, answers)?;
-        self.end(at);
-        Ok(())
-    }
-
     /// Pushes the answers of a tick. For Rstream the current relation becomes that of the last
     /// tick.
+    ///
+    /// # Errors
+    /// `AllocError` when out of memory; then the state and the answers are as they were.
     fn put(&mut self, at: u64, answers: &mut DatedRows) -> Result<(), AllocError>
         ensures answers { OnOk result (answers.new
             ≡ answers.old ++ map (λ r. (at, r))
             (shown self.old.operator self.old.delta self.old.whole)) }
         ensures whole { OnOk result (self.new.whole ≡ kept self.old.operator self.old) }
         ensures operator { self.new.operator ≡ self.old.operator }
-        ensures err { OnErr result (answers.new ≡ answers.old) }
+        ensures err { OnErr result (self.new ≡ self.old) }
+        ensures same { OnErr result (answers.new ≡ answers.old) }
     {
         match self.operator {
             StreamOperator::Istream => self.delta.push_entered(at, answers),

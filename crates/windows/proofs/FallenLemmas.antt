@@ -103,6 +103,10 @@ pub minus_none : (f : Option Row) → is_some f ≡ false → minus_of f ≡ []
 minus_none None h = refl
 minus_none (Some r) h = absurd (true≢false h)
 
+pub minus_some : (f : Option Row) → is_some f ≡ true → length (minus_of f) ≡ 1
+minus_some None h = absurd (true≢false (sym h))
+minus_some (Some r) h = refl
+
 -- ---- how wide they are
 pub beside : (w : ℕ) (f : Option Row) (rows : List Row) → IsFallenWide w f → AreWide w rows → IsBeside f rows
 beside w None rows h wide = tt

@@ -150,3 +150,31 @@ take_column from k values v row lt is sofar =
     ap (λ r. r ++ v ∷ []) sofar
     ∙ ap (λ x. take k (drop from values) ++ x ∷ []) (is ∙ sym (get_or-drop from values k v))
     ∙ sym (take_more (drop from values) k v within)
+
+-- one row comes to the front, and the last leaves
+first_cut : (w m : ℕ) (rest : List (Option ℤ)) (row : Row) → length row ≡ w → cut_rows w (suc m) (row ++ rest) ≡ row ∷ cut_rows w m rest
+first_cut w m rest row e =
+    ap₂ (λ (r : Row) (rs : List Row). r ∷ rs)
+    (ap (λ k. take k (row ++ rest)) (sym e) ∙ take-append_seam row rest)
+    (ap (λ k. cut_rows w m (drop k (row ++ rest))) (sym e) ∙ ap (cut_rows w m) (drop-append_seam row rest))
+
+pub cut_rows-front : (w n m : ℕ) (rest : List (Option ℤ)) (row : Row) → n ≡ m + 1 → length row ≡ w → cut_rows w n (row ++ rest) ≡ row ∷ cut_rows w m rest
+cut_rows-front w n m rest row is e =
+    let one : n ≡ suc m = omega (arith, is) in
+    ap (λ k. cut_rows w k (row ++ rest)) one ∙ first_cut w m rest row e
+
+-- the values of one row fewer
+pub size_before : (w n : ℕ) → 0 < n → (n - 1) * w + w ≡ n * w
+size_before w zero some = absurd (omega (arith, some))
+size_before w (suc m) some =
+    let one : suc m - 1 ≡ m = omega arith in
+    ap (λ k. k * w + w) one ∙ sym (suc-mul m w)
+
+pub IsFlat-front : (w n : ℕ) (values rest new : List (Option ℤ)) (row : Row) → IsFlat w n values → 0 < n → length row ≡ w → rest ≡ take ((n - 1) * w) values → new ≡ row ++ rest → IsFlat w n new
+IsFlat-front w n values rest new row flat some e left is =
+    let size : (n - 1) * w + w ≡ n * w = size_before w n some in
+    let kept : length rest ≡ (n - 1) * w = ap (λ (vs : List (Option ℤ)). length vs) left ∙ length-take-le ((n - 1) * w) values (omega (arith, size, flat.size)) in
+    record {
+      size = ap (λ (vs : List (Option ℤ)). length vs) is ∙ length-append row rest ∙ omega (arith, e, kept, size);
+      narrow = flat.narrow;
+    }

@@ -23,6 +23,12 @@ zip-drop (suc k) [] (r ∷ rows) e = absurd (omega (arith, e))
 zip-drop (suc k) (t ∷ ts) [] e = absurd (omega (arith, e))
 zip-drop (suc k) (t ∷ ts) (r ∷ rows) e = zip-drop k ts rows (omega (arith, e))
 
+pub zip-take : (k : ℕ) (ts : List ℕ) (rows : List Row) → take k (zip ts rows) ≡ zip (take k ts) (take k rows)
+zip-take zero ts rows = refl
+zip-take (suc k) [] rows = refl
+zip-take (suc k) (t ∷ ts) [] = refl
+zip-take (suc k) (t ∷ ts) (r ∷ rows) = ap (λ hs. (t, r) ∷ hs) (zip-take k ts rows)
+
 -- rows that come at one instant
 zip-replicate : (t : ℕ) (batch : List (Bool × Row)) → zip (replicate (length batch) t) (map (λ r. r.1) batch) ≡ map (held_at t) batch
 zip-replicate t [] = refl

@@ -1,5 +1,6 @@
 -- Rows that leave, batch by batch.
 use Rattle.std.proofs.Common.{◌≡◌, ℕ, zero, suc, ◌+◌, ◌-◌, ◌*◌, ◌≤◌, Bool, true, false, not, nat_lt, ℤ, Option, None, Some, List, [], ◌∷◌, ◌++◌, length, map, take, drop, replicate, slice_range, refl, ap, ap₂, sym, ◌∙◌, arith, subst, suc-add, suc-mul, append_assoc, drop-drop}
+use Rattle.std.specs.Prelude.{Result, Ok, Err, OnOk}
 use Rattle.std.proofs.Math.Seq.{take-add}
 use Rattle.std.proofs.lemmas.List.{drop-append-le, drop-take, map-append, take-append-le}
 use Rattle.std.proofs.lemmas.List.{get_or_append_left, length-append, length-drop, length-map, length-take}
@@ -15,7 +16,7 @@ use Rattle.windows.specs.Held.{cut_rows}
 use Rattle.std.specs.List.{filter, flat_map}
 use Rattle.op_queue.specs.declared.item.Item.TheVariants.{Tick}
 use Rattle.windows.specs.Range.{RangeState, is_past, leaving, near, out, with_sign}
-use Rattle.windows.proofs.FlatLemmas.{cut_rows-drop}
+use Rattle.windows.proofs.FlatLemmas.{cut_rows-drop, length-cut_rows}
 use Rattle.windows.proofs.RangeLemmas.{near-none}
 
 -- ---- rows cut from a part of the values
@@ -35,6 +36,15 @@ cut_rows-first w (suc k) values =
     let e : suc k * w ≡ w + k * w = omega (arith, suc-mul k w) in
     ap (λ n. cut_rows w (suc k) (take n values)) e
     ∙ ap₂ (λ (r : Row) (rs : List Row). r ∷ rs) (take_within w (k * w) values) (ap (cut_rows w k) (drop-take w (k * w) values) ∙ cut_rows-first w k (drop w values))
+
+-- the last rows leave with their values
+pub cut_rows-last : (w n k : ℕ) (values new : List (Option ℤ)) (rows : List Row) → new ≡ take ((n - k) * w) values → cut_rows w n values ≡ rows → cut_rows w (n - k) new ≡ take (length rows - k) rows
+cut_rows-last w n k values new rows left is =
+    let size : n - k ≡ length rows - k = omega (arith, length-cut_rows w n values, ap (λ (rs : List Row). length rs) is) in
+    ap (cut_rows w (n - k)) left
+    ∙ cut_rows-first w (n - k) values
+    ∙ sym (cut_rows-take w (n - k) n values (omega arith))
+    ∙ ap₂ (λ (i : ℕ) (rs : List Row). take i rs) size is
 
 -- a range within the first of two lists
 pub slice_front : {X : Type 0} (xs ys : List X) (a b : ℕ) → a ≤ b → b ≤ length xs → slice_range (xs ++ ys) a b ≡ slice_range xs a b
@@ -138,3 +148,8 @@ forward_first es i items rest whole is front h =
     let all : (es ++ entries_of i) ++ flat_map entries_of rest ≡ whole =
     append_assoc es (entries_of i) (flat_map entries_of rest) ∙ ap (λ xs. es ++ flat_map entries_of xs) (sym front) ∙ is in
     IsForward-front (es ++ entries_of i) (flat_map entries_of rest) (subst IsForward (sym all) h)
+
+-- ---- a call that did not fail
+pub ok_of : {T E P : Type 0} (r : Result T E) → ((x : E) → r ≡ Err x → ⊥) → OnOk r P → P
+ok_of (Ok x) never p = p
+ok_of (Err x) never p = absurd (never x refl)

@@ -3,6 +3,8 @@ pub mod RunLemmas
 pub mod RangeLemmas
 pub mod HeldLemmas
 pub mod LeavingLemmas
+pub mod GrownLemmas
+pub mod BackLemmas
 pub mod TableLemmas
 pub mod PartLemmas
 pub mod LatestLemmas

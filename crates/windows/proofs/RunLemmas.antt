@@ -1,11 +1,11 @@
 -- Runs of instants.
-use Rattle.std.proofs.Common.{◌≡◌, ℕ, zero, suc, ◌+◌, ◌-◌, ◌<◌, ◌≤◌, Bool, true, false, cond, nat_lt, List, [], ◌∷◌, ◌++◌, length, drop, get_or, replicate, ap, ap₂, sym, ◌∙◌, arith, append-nil, append_assoc, length-append, drop-cons, add-one, set, subst, drop_of_length-le}
-use Rattle.std.proofs.Math.Seq.{drop-append-add}
+use Rattle.std.proofs.Common.{◌≡◌, ℕ, zero, suc, ◌+◌, ◌-◌, ◌<◌, ◌≤◌, Bool, true, false, cond, nat_lt, List, [], ◌∷◌, ◌++◌, length, drop, take, get_or, replicate, refl, ap, ap₂, sym, ◌∙◌, arith, append-nil, append_assoc, length-append, drop-cons, add-one, set, subst, drop_of_length-le}
+use Rattle.std.proofs.Math.Seq.{drop-append-add, take-append_seam}
 use Rattle.std.specs.List.{prefix_len}
 use Rattle.std.proofs.lemmas.Grind.{flat_map-append}
 use Rattle.std.proofs.lemmas.Bool.Decides.{nat_tests}
 use Rattle.std.proofs.lemmas.List.{drop-append-le, drop-replicate, length-replicate, replicate-append-replicate}
-use Rattle.std.proofs.lemmas.List.Elements.{All-tail, All-cons}
+use Rattle.std.proofs.lemmas.List.Elements.{All-tail, All-cons, All-take, All-push}
 use Rattle.windows.specs.declared.runs.Run.{Run}
 use Rattle.windows.specs.Held.{AreRuns, instants_in}
 
@@ -90,6 +90,57 @@ IsLeft-whole left (s ∷ runs) new r instants some is le left_out h =
 
 drop-read : (runs : List Run) (k : ℕ) (r : Run) → k < length runs → r ≡ get_or runs k r → drop k runs ≡ r ∷ drop (k + 1) runs
 drop-read runs k r lt is = drop-cons runs k r lt ∙ ap₂ (λ (x : Run) (rs : List Run). x ∷ rs) (sym is) (ap (λ n. drop n runs) (sym (add-one k)))
+
+-- the last instants have left, all but `left` of those that are to leave
+pub record IsShort (left count : ℕ) (runs : List Run) (instants : List ℕ) : Type 0 where
+  pub counted : AreRuns runs
+  pub gone : List ℕ
+  pub split : instants ≡ instants_in runs ++ gone
+  pub many : length gone + left ≡ count
+
+AreRuns-front : (runs rest : List Run) (k : ℕ) → rest ≡ take k runs → AreRuns runs → AreRuns rest
+AreRuns-front runs rest k is counted = subst AreRuns (sym is) (All-take (λ r. 0 < r.count) k runs counted)
+
+AreRuns-push : (runs : List Run) (r : Run) → 0 < r.count → AreRuns runs → AreRuns (runs ++ r ∷ [])
+AreRuns-push runs r some counted = All-push (λ r. 0 < r.count) runs r counted some
+
+pub IsShort-part : (left count k : ℕ) (runs rest new : List Run) (r s : Run) (instants : List ℕ) → runs ≡ rest ++ r ∷ [] → rest ≡ take k runs → left < r.count → s.instant ≡ r.instant → s.count ≡ r.count - left → new ≡ rest ++ s ∷ []
+    → IsShort left count runs instants → IsShort 0 count new instants
+IsShort-part left count k runs rest new r s instants is front lt at counts pushed h =
+    let shorter : instants_in new ≡ instants_in rest ++ replicate s.count r.instant =
+    ap instants_in pushed ∙ instants_in-push rest s ∙ ap (λ t. instants_in rest ++ replicate s.count t) at in
+    let longer : instants_in runs ≡ instants_in new ++ replicate left r.instant =
+    instants_in-longer rest new runs r s.count left r.instant shorter is refl (omega (arith, counts, lt)) in
+    record {
+      counted = subst AreRuns (sym pushed) (AreRuns-push rest s (omega (arith, counts, lt)) (AreRuns-front runs rest k front h.counted));
+      gone = replicate left r.instant ++ h.gone;
+      split = h.split ∙ ap (λ ts. ts ++ h.gone) longer ∙ append_assoc (instants_in new) (replicate left r.instant) h.gone;
+      many = omega (arith, h.many, length-append (replicate left r.instant) h.gone, length-replicate left r.instant);
+    }
+
+pub IsShort-whole : (left count k : ℕ) (runs rest : List Run) (r : Run) (instants : List ℕ) → runs ≡ rest ++ r ∷ [] → rest ≡ take k runs → r.count ≤ left → IsShort left count runs instants → IsShort (left - r.count) count rest instants
+IsShort-whole left count k runs rest r instants is front le h =
+    let all : List ℕ = replicate r.count r.instant in
+    record {
+      counted = AreRuns-front runs rest k front h.counted;
+      gone = all ++ h.gone;
+      split = h.split ∙ ap (λ ts. ts ++ h.gone) (ap instants_in is ∙ instants_in-push rest r) ∙ append_assoc (instants_in rest) all h.gone;
+      many = omega (arith, h.many, le, length-append all h.gone, length-replicate r.count r.instant);
+    }
+
+pub IsShort-end : (left count : ℕ) (runs : List Run) (instants : List ℕ) → left ≤ 0 → IsShort left count runs instants → instants_in runs ≡ take (length instants - count) instants
+IsShort-end left count runs instants none h =
+    let size : length instants - count ≡ length (instants_in runs) = omega (arith, none, h.many, ap (λ (ts : List ℕ). length ts) h.split, length-append (instants_in runs) h.gone) in
+    sym (ap (λ n. take n instants) size ∙ ap (take (length (instants_in runs))) h.split ∙ take-append_seam (instants_in runs) h.gone)
+
+pub IsShort-none : (left count : ℕ) (runs : List Run) (instants : List ℕ) → runs ≡ [] → IsShort left count runs instants → instants_in runs ≡ take (length instants - count) instants
+IsShort-none left count runs instants none h =
+    let all : instants ≡ h.gone = h.split ∙ ap (λ (rs : List Run). instants_in rs ++ h.gone) none in
+    let size : length instants - count ≡ 0 = omega (arith, h.many, ap (λ (ts : List ℕ). length ts) all) in
+    ap instants_in none ∙ ap (λ n. take n instants) (sym size)
+
+pub IsShort-start : (count : ℕ) (runs : List Run) → AreRuns runs → IsShort count count runs (instants_in runs)
+IsShort-start count runs counted = record { counted = counted; gone = []; split = sym (append-nil (instants_in runs)); many = omega arith }
 
 -- so many instants stand before the run k, all of them below n
 pub record IsBelow (n : ℕ) (runs : List Run) (k count : ℕ) : Type 0 where

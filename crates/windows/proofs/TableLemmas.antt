@@ -2,7 +2,7 @@
 use Rattle.std.proofs.Common.{◌≡◌, ℕ, zero, suc, ◌+◌, ◌-◌, ◌*◌, ◌≤◌, ◌<◌, Bool, true, false, ℤ, Option, List, [], ◌∷◌, ◌++◌, append_assoc, length, map, take, drop, get_or, slice_range, subst, refl, ap, ap₂, sym, ◌∙◌, arith, add-mul, suc-mul, zero-mul, length-drop}
 use Rattle.std.specs.List.{flat_map}
 use Rattle.std.proofs.Math.Nat.{eq_of_mul-eq-mul_left}
-use Rattle.std.proofs.lemmas.List.{map-append, take-append-drop}
+use Rattle.std.proofs.lemmas.List.{length-take, map-append, take-append-drop}
 use Rattle.op_queue.proofs.BoundLemmas.{length-slice_range}
 use Rattle.values.specs.Row.{Row}
 use Rattle.values.specs.declared.TheConstants.{MAX_COLUMNS}
@@ -83,6 +83,13 @@ row_cut w n place values part rows is lt cut =
     cut ∙ ap (λ (k : ℕ). take k (drop (place * w) values)) e
     ∙ sym (get_or-cut_rows w n place values [] (omega (arith, le)))
     ∙ ap (λ (rs : List Row). get_or rs place []) is
+
+pub row_narrow : (w n place : ℕ) (values : List (Option ℤ)) (rows : List Row) (row : Row) → IsFlat w n values → cut_rows w n values ≡ rows → place < length rows → row ≡ get_or rows place [] → length row ≤ MAX_COLUMNS
+row_narrow w n place values rows row flat is lt at =
+    let le : suc place ≤ n = rows_up_to w n (suc place) values rows is (omega (arith, lt)) in
+    let e : length row ≡ length (take w (drop (place * w) values)) =
+    ap (λ (r : Row). length r) (at ∙ ap (λ (rs : List Row). get_or rs place []) (sym is) ∙ get_or-cut_rows w n place values [] (omega (arith, le))) in
+    omega (arith, e, length-take w (drop (place * w) values), flat.narrow (omega (arith, le)))
 
 -- rows from a place on have their values
 pub part_fits : (w n «from» count : ℕ) (values : List (Option ℤ)) (rows : List Row) → IsFlat w n values → cut_rows w n values ≡ rows → «from» + count ≤ length rows → «from» * w + count * w ≤ length values

@@ -5,5 +5,7 @@ pub mod Range
 pub mod Latest
 pub mod Slide
 pub mod Rooms
+pub mod Grown
+pub mod Back
 pub mod Laws
 pub mod Examples

@@ -1,8 +1,8 @@
 //! Holds the rows that fall out of their partitions.
-ghost use Rattle.std.specs.Prelude.{◌≡◌, ◌<◌, ◌++◌, ◌∷◌, ◌↔◌, [], IsTrue, None, Some};
+ghost use Rattle.std.specs.Prelude.{◌≡◌, ◌<◌, ◌≤◌, ◌++◌, ◌∷◌, ◌↔◌, [], IsTrue, None, Some};
 ghost use Rattle.std.specs.Prelude.{get_or, length, IfOk, OnOk};
 ghost use Rattle.std.specs.Option.{is_some, option_map};
-ghost use Rattle.windows.specs.Fallen.{IsBeside, those_fallen};
+ghost use Rattle.windows.specs.Fallen.{IsBeside, fallen_before, those_fallen};
 ghost use Rattle.windows.specs.Widths.{AreWide};
 
 use crate::row_table::RowTable;
@@ -111,5 +111,31 @@ impl FallenRows {
         ensures { result.now ≡ get_or (those_fallen self.now) place [] }
     {
         self.rows.row(place)
+    }
+
+    /// Returns a copy of the row that falls out after the row at a place, if one does. It costs the
+    /// places before.
+    pub(crate) fn fallen(&self, place: usize) -> Option<Row>
+        requires { place < length self.now }
+        ensures { option_map (λ r. r.items) result ≡ get_or self.now place None }
+    {
+        if !self.falls(place) {
+            return None;
+        }
+        Some(self.rows.copy(self.count_before(place)))
+    }
+
+    /// Counts the rows that fall out after the rows before a place.
+    fn count_before(&self, place: usize) -> usize
+        requires { place ≤ length self.now }
+        ensures { result ≡ fallen_before self.now place }
+    {
+        let mut count = 0;
+        for before in 0..place {
+            if self.falls(before) {
+                count += 1;
+            }
+        }
+        count
     }
 }

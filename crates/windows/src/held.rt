@@ -8,7 +8,7 @@ ghost use Rattle.windows.specs.Range.{held_at, with_sign};
 
 use crate::flat_rows::FlatRows;
 use crate::row_table::RowTable;
-use crate::runs::{Run, count_below, leave, lengthen};
+use crate::runs::{Run, count_below, leave, lengthen, shorten};
 use column::{Batch, MAX_ROWS};
 use std::alloc::{AllocError, Global};
 use std::collections::VecDeque;
@@ -143,5 +143,15 @@ impl HeldRows {
     {
         self.rows.leave(count);
         leave(&mut self.runs, count);
+    }
+
+    /// Drops the last `count` rows. Takes no memory.
+    pub(crate) fn drop_last(&mut self, count: usize)
+        requires { count ≤ length self.old.held }
+        ensures width { self.new.width ≡ self.old.width }
+        ensures held { self.new.held ≡ take (length self.old.held - count) self.old.held }
+    {
+        self.rows.drop_last(count);
+        shorten(&mut self.runs, count);
     }
 }

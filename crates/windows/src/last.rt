@@ -1,6 +1,8 @@
 //! Keeps the last rows of a partition.
-ghost use Rattle.std.specs.Prelude.{◌≡◌, ◌≤◌, ◌++◌, ◌∷◌, [], length, OnOk, OnErr};
+ghost use Rattle.std.specs.Prelude.{◌≡◌, ◌<◌, ◌≤◌, ◌++◌, ◌∷◌, [], length, OnOk, OnErr};
 ghost use Rattle.std.specs.Option.{option_map};
+ghost use Rattle.windows.specs.Back.{rows_back};
+ghost use Rattle.windows.specs.Fallen.{IsBeside};
 ghost use Rattle.windows.specs.Latest.{last_of, row_in};
 ghost use Rattle.windows.specs.Widths.{AreWide};
 
@@ -67,5 +69,18 @@ impl Last {
             return Ok(());
         }
         self.rows.push(row)
+    }
+
+    /// Takes the newest row back out. Puts the row that it made fall out in front again, if there
+    /// is one. Takes no memory.
+    pub(crate) fn take_back(&mut self, fallen: &Option<Row>)
+        requires some { 0 < length self.old }
+        requires wide { IsBeside (option_map (λ r. r.items) fallen.now) self.old }
+        ensures { self.new ≡ rows_back (option_map (λ r. r.items) fallen.now) self.old }
+    {
+        match fallen {
+            Some(row) => self.rows.put_first_for_last(row),
+            None => self.rows.drop_last(1),
+        }
     }
 }

@@ -1,5 +1,5 @@
 //! Keeps the last rows of each partition, with keys in as little room as they need.
-ghost use Rattle.std.specs.Prelude.{◌≡◌, ◌≤◌, [], length, IfOk, OnOk};
+ghost use Rattle.std.specs.Prelude.{◌≡◌, ◌≤◌, [], length, IfOk, OnErr, OnOk};
 ghost use Rattle.column.specs.Rows.{IsTable, width};
 ghost use Rattle.values.specs.Row.{Row as PlainRow};
 ghost use Rattle.windows.specs.Latest.{AreParts, all_after, all_fallen, held_in};
@@ -69,6 +69,30 @@ impl Partitions {
         ensures table { IsTable (width batch.now) batch.now }
     {
         with_parts!(self, parts => parts.fallen_rows(alloc, columns, count, batch))
+    }
+
+    /// Adds the rows of a batch to their partitions, all or none. Drops the oldest if there are
+    /// then more than `count`. `fallen` holds those that fall out.
+    pub(crate) fn take_all(
+        &mut self,
+        alloc: Global,
+        columns: &[usize],
+        count: u64,
+        batch: &Batch,
+        fallen: &FallenRows,
+    ) -> Result<(), AllocError>
+        requires narrow { length columns.now ≤ room_of self.old }
+        requires parts { AreParts count (width batch.now) (held_in (entries_in self.old)) }
+        requires fallen { fallen.now
+            ≡ all_fallen columns.now count (held_in (entries_in self.old)) batch.now }
+        ensures ok { OnOk result ((k : PlainRow)
+            → held_in (entries_in self.new) k
+            ≡ all_after columns.now count (held_in (entries_in self.old)) batch.now k) }
+        ensures parts { AreParts count (width batch.now) (held_in (entries_in self.new)) }
+        ensures room { room_of self.new ≡ room_of self.old }
+        ensures err { OnErr result (entries_in self.new ≡ entries_in self.old) }
+    {
+        with_parts!(self, parts => parts.take_all(alloc, columns, count, batch, fallen))
     }
 
     /// Adds the rows of a batch to their partitions, and drops the oldest if there are then more

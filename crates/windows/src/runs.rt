@@ -1,5 +1,6 @@
 //! Keeps instants in order, equal ones as one run.
-ghost use Rattle.std.specs.Prelude.{◌≡◌, ◌≤◌, ◌<◌, ◌+◌, ◌^◌, ◌++◌, nat_lt, length, drop, replicate};
+ghost use Rattle.std.specs.Prelude.{◌≡◌, ◌≤◌, ◌<◌, ◌+◌, ◌-◌, ◌^◌, ◌++◌, nat_lt, length, drop};
+ghost use Rattle.std.specs.Prelude.{replicate, take};
 ghost use Rattle.std.specs.VecDeque.{deque_len, deque_capacity};
 ghost use Rattle.std.specs.List.{prefix_len};
 ghost use Rattle.windows.specs.Held.{AreRuns, instants_in};
@@ -73,6 +74,29 @@ pub(crate) fn leave(runs: &mut VecDeque<Run>, count: usize)
             left = 0;
         } else {
             runs.pop_front();
+            left -= run.count;
+        }
+    }
+}
+
+/// Drops the last `count` instants. Takes no memory.
+pub(crate) fn shorten(runs: &mut VecDeque<Run>, count: usize)
+    requires { AreRuns runs.old.items }
+    ensures counted { AreRuns runs.new.items }
+    ensures instants { instants_in runs.new.items
+        ≡ take (length (instants_in runs.old.items) - count) (instants_in runs.old.items) }
+{
+    let mut left = count;
+    while left > 0
+        && let Some(run) = runs.pop_back()
+    {
+        if left < run.count {
+            runs.push_back_reserved(Run {
+                instant: run.instant,
+                count: run.count - left,
+            });
+            left = 0;
+        } else {
             left -= run.count;
         }
     }

@@ -5,7 +5,10 @@ ghost use Rattle.std.specs.Prelude.{OnOk, OnErr};
 ghost use Rattle.std.specs.List.{filter, flat_map};
 ghost use Rattle.op_queue.specs.Entries.{IsForward};
 ghost use Rattle.op_queue.specs.Items.{entries_of, item_instant};
-ghost use Rattle.op_queue.specs.Queues.{HasGained};
+ghost use Rattle.column.specs.Rows.{width};
+ghost use Rattle.op_queue.specs.Queues.{HasGained, HasGrown};
+ghost use Rattle.op_queue.specs.declared.item.Item.TheVariants.{Rows, Tick};
+ghost use Rattle.windows.specs.Grown.{HasGrownAt};
 ghost use Rattle.windows.specs.Range.{IsAfter};
 ghost use Rattle.windows.specs.Slide as spec;
 ghost use Rattle.windows.specs.Slide.{HaveOneWidthIn, Stays, near, near_at, next, nothing, out};
@@ -14,6 +17,7 @@ ghost use Rattle.windows.specs.Widths.{IsItemWide};
 use crate::held::HeldRows;
 use crate::outputs::{add, add_rows, put_held};
 use crate::row_table::RowTable;
+use column::Batch;
 use op_queue::{Item, Queue};
 use std::alloc::{AllocError, Global};
 use std::marker::Model;
@@ -122,7 +126,8 @@ impl SlideWindow {
     ///
     /// # Errors
     /// `AllocError` when out of memory, or if there would be more rows than a `usize` counts. Then
-    /// nothing is said of the rows that are held, nor of the queue.
+    /// the window is as it was, and some of the rows that it emits may be in the queue, and nothing
+    /// else.
     pub fn run(&mut self, alloc: Global, item: Item, queue: &mut Queue) -> Result<(), AllocError>
         requires after { IsAfter (item_instant item) self.old.held }
         requires wide { IsItemWide self.old.width item }
@@ -130,11 +135,28 @@ impl SlideWindow {
         ensures next { OnOk result (self.new ≡ next self.old item) }
         ensures gained { OnOk result
             (HasGained (out item (near self.old item)) queue.old queue.new) }
+        ensures err { OnErr result (self.new ≡ self.old) }
+        ensures grown { OnErr result (HasGrown queue.old queue.new) }
         ensures fits { HaveOneWidthIn (near self.old item) }
     {
         self.excerpt_fits(&item);
-        self.put_out(alloc, &item, queue)?;
-        self.apply(&item)?;
+        match item {
+            Item::Rows(at, batch) => self.enter(at, &batch),
+            Item::Tick(at) => self.run_tick(alloc, at, queue),
+        }
+    }
+
+    /// Takes the tick of an instant, and pushes what the window emits at it to the back of the
+    /// queue.
+    fn run_tick(&mut self, alloc: Global, at: u64, queue: &mut Queue) -> Result<(), AllocError>
+        requires { IsForward (queue.old.entries ++ spec.tick_out self.old at) }
+        ensures next { OnOk result (self.new ≡ next self.old (Tick at)) }
+        ensures gained { OnOk result (HasGained (spec.tick_out self.old at) queue.old queue.new) }
+        ensures err { OnErr result (self.new ≡ self.old) }
+        ensures grown { OnErr result (HasGrown queue.old queue.new) }
+    {
+        self.put_tick(alloc, at, queue)?;
+        self.tick(at);
         Ok(())
     }
 
@@ -145,22 +167,11 @@ impl SlideWindow {
         let _count = self.held.len(); // for the proof
     }
 
-    /// Pushes to the back of the queue what the window emits at the item.
-    fn put_out(&self, alloc: Global, item: &Item, queue: &mut Queue) -> Result<(), AllocError>
-        requires { IsForward (queue.old.entries ++ out item.now (near self.now item.now)) }
-        ensures { OnOk result
-            (HasGained (out item.now (near self.now item.now)) queue.old queue.new) }
-    {
-        match item {
-            Item::Rows(_, _) => Ok(()),
-            Item::Tick(at) => self.put_tick(alloc, *at, queue),
-        }
-    }
-
     /// Pushes to the back of the queue what the window emits at the tick of an instant.
     fn put_tick(&self, alloc: Global, at: u64, queue: &mut Queue) -> Result<(), AllocError>
         requires { IsForward (queue.old.entries ++ spec.tick_out self.now at) }
-        ensures { OnOk result (HasGained (spec.tick_out self.now at) queue.old queue.new) }
+        ensures gained { OnOk result (HasGained (spec.tick_out self.now at) queue.old queue.new) }
+        ensures err { OnErr result (HasGrownAt at queue.old queue.new) }
     {
         if self.moves(at) {
             return self.put_moved(alloc, at, queue);
@@ -172,7 +183,8 @@ impl SlideWindow {
     /// Pushes to the back of the queue what the window emits at a tick at which it moves.
     fn put_moved(&self, alloc: Global, at: u64, queue: &mut Queue) -> Result<(), AllocError>
         requires { IsForward (queue.old.entries ++ spec.moved_out self.now at) }
-        ensures { OnOk result (HasGained (spec.moved_out self.now at) queue.old queue.new) }
+        ensures gained { OnOk result (HasGained (spec.moved_out self.now at) queue.old queue.new) }
+        ensures err { OnErr result (HasGrownAt at queue.old queue.new) }
     {
         let older = self.held.count_older(at.saturating_sub(self.span));
         let middle = older.max(self.shown);
@@ -276,16 +288,34 @@ impl SlideWindow {
         ensures err { OnErr result (self.new ≡ self.old) }
     {
         match item {
-            Item::Rows(at, batch) => self.held.enter(*at, batch)?,
+            Item::Rows(at, batch) => self.enter(*at, batch),
             Item::Tick(at) => {
-                if self.moves(*at) {
-                    let older = self.held.count_older(at.saturating_sub(self.span));
-                    self.held.leave(older);
-                    self.shown = self.held.len();
-                }
+                self.tick(*at);
+                Ok(())
             },
         }
+    }
+
+    /// Takes rows of an instant into the state.
+    fn enter(&mut self, at: u64, batch: &Batch) -> Result<(), AllocError>
+        requires after { IsAfter at self.old.held }
+        requires wide { width batch.now ≡ self.old.width }
+        ensures next { OnOk result (self.new ≡ next self.old (Rows at batch.now)) }
+        ensures err { OnErr result (self.new ≡ self.old) }
+    {
+        self.held.enter(at, batch)?;
         Ok(())
+    }
+
+    /// Takes the tick of an instant into the state. Takes no memory.
+    fn tick(&mut self, at: u64)
+        ensures { self.new ≡ next self.old (Tick at) }
+    {
+        if self.moves(at) {
+            let older = self.held.count_older(at.saturating_sub(self.span));
+            self.held.leave(older);
+            self.shown = self.held.len();
+        }
     }
 }
 

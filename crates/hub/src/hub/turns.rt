@@ -152,7 +152,7 @@ impl Hub {
     ///
     /// # Errors
     /// Those of `drain`. `TooManyLeases` and `OutOfMemory` only if an operator could take
-    /// something, and not after `turns` turns. Of several queries each may break.
+    /// something, and not after `turns` turns.
     ///
     /// Example: `a_hub_drains_in_threads` in crates/uses/src/hubs.rt.
     pub fn drain_some_by_query<R: Threads + Wait + Sync>(

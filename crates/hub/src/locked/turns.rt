@@ -45,8 +45,7 @@ impl Locked {
     /// # Errors
     /// `BadLimit` if `rows` is not 1 to 1,024. `TooManyLeases` if an operator is ready while 64
     /// turns are out or no number of a turn is left. `OutOfMemory` when out of memory. What ran
-    /// before the fault stays. A query that ran out of memory while its turn was taken in is
-    /// broken.
+    /// before the fault stays, and no query breaks.
     #[tactic(auto, unfolding(crate::specs::Steps::engine_at))]
     pub fn drain(&mut self, rows: u32) -> Result<(), Fault>
         ensures step { self.new ≡ with_engine self.old self.new.engine }
@@ -95,7 +94,7 @@ impl Locked {
     ///
     /// # Errors
     /// Those of `drain`. `TooManyLeases` and `OutOfMemory` only if an operator could take
-    /// something, and not after `turns` turns. Of several queries each may break.
+    /// something, and not after `turns` turns.
     #[tactic(auto, unfolding(crate::specs::Steps::engine_at), using(crate::proofs::ReadyLemmas::idle_by_query))]
     pub fn drain_some_by_query<R: Threads + Sync>(
         &mut self,

@@ -1,5 +1,5 @@
 //! Answers what clients call.
-ghost use Rattle.std.specs.Prelude.{◌≡◌, ◌≢◌, ◌⊎◌, ℕ, Err, IfErr, IfOk, None, OnErr, OnOk};
+ghost use Rattle.std.specs.Prelude.{◌≡◌, ◌⊎◌, ℕ, Err, IfErr, IfOk, None, OnErr, OnOk};
 ghost use Rattle.std.specs.Prelude.{slice_get};
 ghost use Rattle.std.specs.Option.{option_copied};
 ghost use Rattle.plan.specs.Chart.{given_by};
@@ -111,9 +111,9 @@ impl Answering for Engine {
         ensures whole { IsWhole self.old → IsPlenty result → IsWhole self.new }
         ensures spent { HasNumbers self.new → HasNumbers self.old }
         ensures numbers { IsWhole self.old → result ≡ Err TooManyLeases → ¬ HasNumbers self.new }
-        ensures stays_whole { IsWhole self.old → result ≢ Err OutOfMemory → IsWhole self.new }
+        ensures stays_whole { IsWhole self.old → IsWhole self.new }
         ensures runs { RunsByQuery (engine_in self.old) rows result (engine_in self.new) }
-        ensures others { LeavesOthers (engine_in self.old) result (engine_in self.new) }
+        ensures others { LeavesOthers (engine_in self.old) (engine_in self.new) }
         ensures machine { (engine_in self.new).machine ≡ (engine_in self.old).machine }
         ensures idle { OnOk result (first_of (engine_in self.new).slots ≡ None) }
         ensures all { OnOk result (HasAllWaiting (engine_in self.new)) }

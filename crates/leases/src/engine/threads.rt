@@ -27,8 +27,8 @@ impl Engine {
     /// # Errors
     /// `BadLimit` if `rows` is out of range; then nothing has changed. If an operator may take
     /// something: `TooManyLeases` if 64 turns are out or all numbers of turns were given;
-    /// `OutOfMemory` when out of memory. The turns before stay. A turn that needed the memory did
-    /// nothing, or it broke its query. The turns of other queries stay.
+    /// `OutOfMemory` when out of memory. All turns that ran stay. A turn that needed the memory did
+    /// nothing, or it took fewer rows. Drain again to go on.
     ///
     /// Example: `a_drain_takes_query_by_query` in crates/uses/src/engine.rt.
     pub fn drain_by_query<R: Threads + Sync>(
@@ -43,9 +43,9 @@ impl Engine {
         ensures whole { IsWhole self.old → IsPlenty result → IsWhole self.new }
         ensures spent { HasNumbers self.new → HasNumbers self.old }
         ensures numbers { IsWhole self.old → result ≡ Err TooManyLeases → ¬ HasNumbers self.new }
-        ensures stays_whole { IsWhole self.old → result ≢ Err OutOfMemory → IsWhole self.new }
+        ensures stays_whole { IsWhole self.old → IsWhole self.new }
         ensures runs { RunsByQuery (engine_in self.old) rows result (engine_in self.new) }
-        ensures others { LeavesOthers (engine_in self.old) result (engine_in self.new) }
+        ensures others { LeavesOthers (engine_in self.old) (engine_in self.new) }
         ensures machine { (engine_in self.new).machine ≡ (engine_in self.old).machine }
         ensures idle { OnOk result (first_of (engine_in self.new).slots ≡ None) }
         ensures all { OnOk result (HasAllWaiting (engine_in self.new)) }
@@ -67,8 +67,8 @@ impl Engine {
     /// # Errors
     /// `BadLimit` if `rows` is out of range; then nothing has changed. `TooManyLeases` if 64 turns
     /// are out or all numbers of turns were given. `OutOfMemory` when out of memory: a turn did
-    /// nothing, or queries broke, perhaps several. Both come only if an operator could take
-    /// something, and before `turns` turns have run or within them. All other turns stay.
+    /// nothing, or turns of several queries took fewer rows. Both come only if an operator could
+    /// take something, and before `turns` turns have run or within them. All turns that ran stay.
     ///
     /// Example: `a_drain_takes_some_turns_of_each_query` in crates/uses/src/engine.rt.
     pub fn drain_some_by_query<R: Threads + Sync>(
@@ -94,10 +94,9 @@ impl Engine {
             ((engine_in self.old).next + turns) (engine_in self.old) (engine_in self.new) }
         ensures looks { turns ≡ 0 → (engine_in self.new ≡ engine_in self.old)
             × IfErr result (λ fault. fault ≡ BadLimit) }
-        ensures others { LeavesOthers (engine_in self.old) (as_drained result)
-            (engine_in self.new) }
+        ensures others { LeavesOthers (engine_in self.old) (engine_in self.new) }
         ensures machine { (engine_in self.new).machine ≡ (engine_in self.old).machine }
-        ensures stays_whole { IsWhole self.old → result ≢ Err OutOfMemory → IsWhole self.new }
+        ensures stays_whole { IsWhole self.old → IsWhole self.new }
         ensures spent { HasNumbers self.new → HasNumbers self.old }
         ensures promises { KeepsItsPromises (engine_in self.new) }
     {

@@ -89,7 +89,7 @@ impl Engine {
     /// `BadLimit` if `rows` is out of range; then nothing has changed. `TooManyLeases` if 64 turns
     /// are out or all numbers of turns were given. `OutOfMemory` when out of memory. Both come only
     /// if an operator may take something and fewer than `turns` turns have run. The turns before
-    /// stay. The turn that needed the memory did nothing, or it broke its query.
+    /// stay. The turn that needed the memory did nothing, or it took fewer rows.
     ///
     /// Example: `a_drain_stops_after_some_turns` in crates/uses/src/engine.rt.
     pub fn drain_some(&mut self, rows: u32, turns: u64) -> Result<bool, Fault>
@@ -109,10 +109,9 @@ impl Engine {
             ((engine_in self.old).next + turns) (engine_in self.old) (engine_in self.new) }
         ensures looks { turns ≡ 0 → (engine_in self.new ≡ engine_in self.old)
             × IfErr result (λ fault. fault ≡ BadLimit) }
-        ensures others { LeavesOthers (engine_in self.old) (as_drained result)
-            (engine_in self.new) }
+        ensures others { LeavesOthers (engine_in self.old) (engine_in self.new) }
         ensures machine { (engine_in self.new).machine ≡ (engine_in self.old).machine }
-        ensures stays_whole { IsWhole self.old → result ≢ Err OutOfMemory → IsWhole self.new }
+        ensures stays_whole { IsWhole self.old → IsWhole self.new }
         ensures spent { HasNumbers self.new → HasNumbers self.old }
         ensures promises { KeepsItsPromises (engine_in self.new) }
     {

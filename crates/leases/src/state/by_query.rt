@@ -1,5 +1,5 @@
 //! Drains each query by itself, in this thread or in several.
-ghost use Rattle.std.specs.Prelude.{◌≡◌, ◌≢◌, ◌+◌, ◌*◌, ◌++◌, ◌<◌, ◌≤◌, ◌∷◌, ℕ, Err, IfErr, IfOk};
+ghost use Rattle.std.specs.Prelude.{◌≡◌, ◌+◌, ◌*◌, ◌++◌, ◌<◌, ◌≤◌, ◌∷◌, ℕ, Err, IfErr, IfOk};
 ghost use Rattle.std.specs.Prelude.{IfSome, List, None, Ok, OnErr, OnOk, [], false, length, set};
 ghost use Rattle.std.specs.Prelude.{true};
 ghost use Rattle.reference.specs.declared.fault.Fault.TheVariants.{BadLimit, OutOfMemory};
@@ -8,8 +8,8 @@ ghost use Rattle.run_queue.specs.Slots.{first_of};
 ghost use Rattle.laws_engine.specs.Engines.{Dropped, PlainEngine, remains_at};
 ghost use Rattle.leases.specs.Applied.{GivesNothing, with_remains};
 ghost use Rattle.leases.specs.Asked.{IsRunningAt};
-ghost use Rattle.leases.specs.ByQuery.{HasRunOutBelow, HaveComeHome, RunsByQuery, SomeHaveFailed};
-ghost use Rattle.leases.specs.ByQuery.{SomeWereDone};
+ghost use Rattle.leases.specs.ByQuery.{HasRunOutBelow, HaveComeHome, RunsByQuery, SomeWereDone};
+ghost use Rattle.leases.specs.ByQuery.{SomeWereLess};
 ghost use Rattle.leases.specs.Drains.{LeavesOthers, as_drained};
 ghost use Rattle.leases.specs.Jobs.{AreJobsBelow, AreLent, AreNewJobs, AreOut, HaveFewTurns};
 ghost use Rattle.leases.specs.Jobs.{IsBare, IsQuota};
@@ -46,9 +46,9 @@ impl EngineState {
     pub(crate) fn drain(&mut self, rows: u32) -> Result<(), Fault>
         requires { IsSound self.old }
         ensures runs { RunsByQuery (engine_in self.old) rows result (engine_in self.new) }
-        ensures others { LeavesOthers (engine_in self.old) result (engine_in self.new) }
+        ensures others { LeavesOthers (engine_in self.old) (engine_in self.new) }
         ensures idle { OnOk result (first_of (engine_in self.new).slots ≡ None) }
-        ensures whole { IsWhole self.old → result ≢ Err OutOfMemory → IsWhole self.new }
+        ensures whole { IsWhole self.old → IsWhole self.new }
         ensures sound { IsSound self.new }
     {
         if let Some(fault) = turn_fault(rows) {
@@ -77,9 +77,9 @@ impl EngineState {
     ) -> Result<(), Fault>
         requires { IsSound self.old }
         ensures runs { RunsByQuery (engine_in self.old) rows result (engine_in self.new) }
-        ensures others { LeavesOthers (engine_in self.old) result (engine_in self.new) }
+        ensures others { LeavesOthers (engine_in self.old) (engine_in self.new) }
         ensures idle { OnOk result (first_of (engine_in self.new).slots ≡ None) }
-        ensures whole { IsWhole self.old → result ≢ Err OutOfMemory → IsWhole self.new }
+        ensures whole { IsWhole self.old → IsWhole self.new }
         ensures sound { IsSound self.new }
     {
         if let Some(fault) = turn_fault(rows) {
@@ -106,8 +106,7 @@ impl EngineState {
         requires { IsSound self.old }
         ensures runs { RunsByQuery (engine_in self.old) rows (as_drained result)
             (engine_in self.new) }
-        ensures others { LeavesOthers (engine_in self.old) (as_drained result)
-            (engine_in self.new) }
+        ensures others { LeavesOthers (engine_in self.old) (engine_in self.new) }
         ensures most { self.new.next ≤ self.old.next + turns }
         ensures more { result ≡ Ok true → HasReady (engine_in self.new) }
         ensures last { result ≡ Ok true → self.new.next ≡ self.old.next + turns }
@@ -116,7 +115,7 @@ impl EngineState {
         ensures below { result ≡ Err OutOfMemory → HasRunOutBelow rows (self.old.next + turns)
             (engine_in self.old) (engine_in self.new) }
         ensures looks { turns ≡ 0 → IfErr result (λ fault. fault ≡ BadLimit) }
-        ensures whole { IsWhole self.old → result ≢ Err OutOfMemory → IsWhole self.new }
+        ensures whole { IsWhole self.old → IsWhole self.new }
         ensures sound { IsSound self.new }
     {
         if let Some(fault) = turn_fault(rows) {
@@ -130,12 +129,12 @@ impl EngineState {
     /// Drains the ready queries, one after the other. It does so only if no turn is out.
     ///
     /// # Errors
-    /// `AllocError` when out of memory: a query broke.
+    /// `AllocError` when out of memory: some turns took fewer rows, one of a query at most.
     fn run_each(&mut self, rows: usize) -> Result<(), AllocError>
         requires sound { IsSound self.old }
         requires some { 0 < rows }
         ensures ok { OnOk result (SomeWereDone rows (engine_in self.old) (engine_in self.new)) }
-        ensures err { OnErr result (SomeHaveFailed rows (engine_in self.old) (engine_in self.new)) }
+        ensures err { OnErr result (SomeWereLess rows (engine_in self.old) (engine_in self.new)) }
         ensures others { (engine_in self.new).leases ≡ (engine_in self.old).leases }
         ensures sound { IsSound self.new }
     {
@@ -166,7 +165,7 @@ impl EngineState {
     /// Each query has an equal share of the turns. It does so only if no turn is out.
     ///
     /// # Errors
-    /// `AllocError` when out of memory: a query broke.
+    /// `AllocError` when out of memory: some turns took fewer rows, one of a query at most.
     fn run_by_query<R: Threads + Sync>(
         &mut self,
         rt: &R,
@@ -177,7 +176,7 @@ impl EngineState {
         requires sound { IsSound self.old }
         requires some { 0 < rows }
         ensures ok { OnOk result (SomeWereDone rows (engine_in self.old) (engine_in self.new)) }
-        ensures err { OnErr result (SomeHaveFailed rows (engine_in self.old) (engine_in self.new)) }
+        ensures err { OnErr result (SomeWereLess rows (engine_in self.old) (engine_in self.new)) }
         ensures most { self.new.next ≤ self.old.next + turns }
         ensures others { (engine_in self.new).leases ≡ (engine_in self.old).leases }
         ensures sound { IsSound self.new }
@@ -354,6 +353,7 @@ impl EngineState {
             slots,
             work: self.work_from(query, place),
             turns: 0,
+            stopped: false,
         })
     }
 
@@ -399,13 +399,13 @@ impl EngineState {
     /// Takes back the queries of all jobs.
     ///
     /// # Errors
-    /// `AllocError` if one of them is broken.
+    /// `AllocError` if one of them ran out of memory within a turn.
     fn bring_home(&mut self, jobs: Vec<Job>) -> Result<(), AllocError>
         requires { (e : PlainEngine) × ((rows : ℕ) × AreOut e rows jobs.items self.old) }
         ensures ok { OnOk result ((e : PlainEngine) (rows : ℕ) → AreOut e rows jobs.items self.old
             → SomeWereDone rows e (engine_in self.new)) }
         ensures err { OnErr result ((e : PlainEngine) (rows : ℕ)
-            → AreOut e rows jobs.items self.old → SomeHaveFailed rows e (engine_in self.new)) }
+            → AreOut e rows jobs.items self.old → SomeWereLess rows e (engine_in self.new)) }
         ensures most { (n : ℕ) → HaveFewTurns n jobs.items
             → self.new.next ≤ self.old.next + length jobs.items * n }
         ensures returned { (engine_in self.new).leases ≡ [] }
@@ -424,7 +424,8 @@ impl EngineState {
         Err(AllocError)
     }
 
-    /// Takes back the query of a job. Returns whether it runs.
+    /// Takes back the query of a job. Returns whether no turn of it took fewer rows since it ran out
+    /// of memory.
     fn take_home(&mut self, job: Job) -> bool
         requires { (e : PlainEngine) × ((rows : ℕ) × ((rest : List OneJob)
             × AreOut e rows (rest ++ job ∷ []) self.old)) }
@@ -439,15 +440,11 @@ impl EngineState {
             slots,
             work: _,
             turns,
+            stopped,
         } = job;
-        let broke = remains.is_broken();
         self.put_back(query, remains, turns);
-        if broke {
-            self.stop(query);
-            return false;
-        }
         self.change_slots(&slots);
-        true
+        !stopped
     }
 
     /// Puts back what is left of a query, after so many turns.

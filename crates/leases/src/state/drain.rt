@@ -1,6 +1,6 @@
 //! Drains: runs turns in place until nothing is ready, or so many have run.
-ghost use Rattle.std.specs.Prelude.{◌≡◌, ◌≢◌, ◌↔◌, ◌<◌, ◌≤◌, ◌+◌, Err, IfErr, IfOk, IsTrue, None};
-ghost use Rattle.std.specs.Prelude.{MatchOption, Ok, OnErr, OnOk, Some, false, true};
+ghost use Rattle.std.specs.Prelude.{◌≡◌, ◌↔◌, ◌<◌, ◌≤◌, ◌+◌, Err, IfErr, IfOk, IsTrue, None};
+ghost use Rattle.std.specs.Prelude.{Ok, OnErr, OnOk, Some, false, true};
 ghost use Rattle.reference.specs.World.{drain_fault};
 ghost use Rattle.reference.specs.declared.fault.Fault.TheVariants.{BadLimit, OutOfMemory};
 ghost use Rattle.reference.specs.declared.fault.Fault.TheVariants.{TooManyLeases};
@@ -12,8 +12,8 @@ ghost use Rattle.leases.specs.Asked.{HasOperatorAt};
 ghost use Rattle.leases.specs.Drains.{LeavesOthers, OneOrMoreHaveRun, RanOutAfterTurns};
 ghost use Rattle.leases.specs.Drains.{RanOutBelow, RunsFirst, RunsTurns, as_drained};
 ghost use Rattle.leases.specs.Readers.{next_for, with_slots, with_update};
-ghost use Rattle.leases.specs.Runs.{HasLast, HasRunIn, HasRunOn, HasStoppedIn, HasStoppedOn};
-ghost use Rattle.leases.specs.Runs.{MayRunIn, MayRunOn};
+ghost use Rattle.leases.specs.Runs.{HasRunIn, HasRunOn, HasStoppedIn, HasStoppedOn, MayRunIn};
+ghost use Rattle.leases.specs.Runs.{MayRunOn};
 ghost use Rattle.leases.specs.Shown.{engine_in};
 ghost use Rattle.leases.specs.Sound.{IsSound};
 ghost use Rattle.leases.specs.Told.{GoesOn, IsNoSteeper, MayTellBoth, told, told_state};
@@ -24,7 +24,6 @@ ghost use Rattle.leases.specs.Whole.{IsWhole};
 use crate::limits::LEASE_NUMBERS;
 use crate::remains::Remains;
 use crate::state::EngineState;
-use crate::state::status::reach_of;
 use column::Side;
 use operators::Refused;
 use reference::{Fault, turn_fault};
@@ -38,9 +37,9 @@ impl EngineState {
         requires sound { IsSound self.old }
         requires accepted { drain_fault rows ≡ None }
         ensures runs { RunsTurns (engine_in self.old) rows result (engine_in self.new) }
-        ensures others { LeavesOthers (engine_in self.old) result (engine_in self.new) }
+        ensures others { LeavesOthers (engine_in self.old) (engine_in self.new) }
         ensures idle { OnOk result (first_of (engine_in self.new).slots ≡ None) }
-        ensures whole { IsWhole self.old → result ≢ Err OutOfMemory → IsWhole self.new }
+        ensures whole { IsWhole self.old → IsWhole self.new }
         ensures sound { IsSound self.new }
     {
         let mut settled = true;
@@ -57,8 +56,7 @@ impl EngineState {
         requires { IsSound self.old }
         ensures runs { RunsTurns (engine_in self.old) rows (as_drained result)
             (engine_in self.new) }
-        ensures others { LeavesOthers (engine_in self.old) (as_drained result)
-            (engine_in self.new) }
+        ensures others { LeavesOthers (engine_in self.old) (engine_in self.new) }
         ensures most { self.new.next ≤ self.old.next + turns }
         ensures more { result ≡ Ok true → HasReady (engine_in self.new) }
         ensures last { result ≡ Ok true → self.new.next ≡ self.old.next + turns }
@@ -67,7 +65,7 @@ impl EngineState {
         ensures below { result ≡ Err OutOfMemory → RanOutBelow rows (self.old.next + turns)
             (engine_in self.old) (engine_in self.new) }
         ensures looks { turns ≡ 0 → IfErr result (λ fault. fault ≡ BadLimit) }
-        ensures whole { IsWhole self.old → result ≢ Err OutOfMemory → IsWhole self.new }
+        ensures whole { IsWhole self.old → IsWhole self.new }
         ensures sound { IsSound self.new }
     {
         if let Some(fault) = turn_fault(rows) {
@@ -85,8 +83,7 @@ impl EngineState {
         requires within { self.old.next ≤ until }
         ensures runs { RunsTurns (engine_in self.old) rows (as_drained result)
             (engine_in self.new) }
-        ensures others { LeavesOthers (engine_in self.old) (as_drained result)
-            (engine_in self.new) }
+        ensures others { LeavesOthers (engine_in self.old) (engine_in self.new) }
         ensures most { self.new.next ≤ until }
         ensures more { result ≡ Ok true → HasReady (engine_in self.new) }
         ensures last { result ≡ Ok true → self.new.next ≡ until }
@@ -95,7 +92,7 @@ impl EngineState {
         ensures below { result ≡ Err OutOfMemory
             → RanOutBelow rows until (engine_in self.old) (engine_in self.new) }
         ensures looks { OnErr result (self.old.next < until) }
-        ensures whole { IsWhole self.old → result ≢ Err OutOfMemory → IsWhole self.new }
+        ensures whole { IsWhole self.old → IsWhole self.new }
         ensures sound { IsSound self.new }
     {
         let mut settled = true;
@@ -143,7 +140,7 @@ impl EngineState {
     ///
     /// # Errors
     /// `AllocError` when out of memory. The turns before stay. The turn that needed the memory did
-    /// nothing, or it broke its query. The error does not say which: the query shows it.
+    /// nothing, or it took fewer rows. The error does not say which.
     fn run_slot(&mut self, slot: &Slot, rows: usize, until: u64) -> Result<bool, AllocError>
         requires sound { IsSound self.old }
         requires first { first_of self.old.slots ≡ Some slot.now }
@@ -175,7 +172,7 @@ impl EngineState {
     ///
     /// # Errors
     /// `AllocError` when out of memory; the turns before stay. If the last turn had taken nothing
-    /// yet, it changes nothing; otherwise the query breaks. The error is the same.
+    /// yet, it changes nothing; otherwise it took fewer rows. Either way no slot is left to update.
     fn run_while_first(
         &mut self,
         slot: &Slot,
@@ -207,20 +204,17 @@ impl EngineState {
         let operator = slot.operator();
         let stays = goes_before(slot, above);
         let mut turn = *slot;
-        let mut last = self.last_tick(slot);
         'turns: loop {
             let lease = self.next;
             match self.run_query(&turn, rows) {
                 Ok(()) => self.next = lease + 1,
                 Err(Refused::Before) => {
-                    let next = self.next_for(query, operator);
-                    self.update_slots(slot, next, above);
+                    self.tell_slots(slot, above);
                     return Err(AllocError);
                 },
                 Err(Refused::Within) => {
                     self.next = lease + 1;
-                    let reach = reach_of(&self.registered[query as usize], last);
-                    self.break_query(query, reach);
+                    self.tell_slots(slot, above);
                     return Err(AllocError);
                 },
             }
@@ -229,30 +223,17 @@ impl EngineState {
                 return Ok(next);
             }
             turn = slot.with_next(next);
-            last = self.last_behind(slot, above, last);
         }
     }
 
-    /// Returns the instant of the last tick that the root of the slot's query has taken.
-    fn last_tick(&self, slot: &Slot) -> Option<u64>
-        requires { HasOperatorAt (engine_in self.now) slot.now.query slot.now.operator }
-        ensures { HasLast (engine_in self.now) slot.now.query result }
+    /// Gives the slot of the operator that ran what that operator may take next, and so the slot
+    /// above, if there is one.
+    fn tell_slots(&mut self, slot: &Slot, above: &Option<Slot>)
+        requires { MayTellBoth self.old slot.now above.now }
+        ensures { self.new ≡ told_state self.old slot.now above.now }
     {
-        self.running(slot.query()).last_tick()
-    }
-
-    /// Does so after a turn of the slot's operator, before which it was `last`. Only the root's
-    /// turns change it, and nothing is above the root.
-    #[inline(always)]
-    fn last_behind(&self, slot: &Slot, above: &Option<Slot>, last: Option<u64>) -> Option<u64>
-        requires { HasOperatorAt (engine_in self.now) slot.now.query slot.now.operator }
-        ensures { MatchOption above.now (HasLast (engine_in self.now) slot.now.query result)
-            (λ a. result ≡ last) }
-    {
-        match above {
-            Some(_) => last,
-            None => self.last_tick(slot),
-        }
+        let next = self.next_for(slot.query(), slot.operator());
+        self.update_slots(slot, next, above);
     }
 
     /// Returns whether the slot would come first again, with what its operator may take next. A
@@ -302,6 +283,9 @@ impl EngineState {
     }
 
     /// Runs a turn of the slot in its query.
+    ///
+    /// # Errors
+    /// `Refused` when out of memory. If it is `Within`, the turn was one of fewer rows.
     fn run_query(&mut self, slot: &Slot, rows: usize) -> Result<(), Refused>
         requires { MayRunIn (engine_in self.old) slot.now rows }
         ensures ok { OnOk result

@@ -1,19 +1,17 @@
 //! Drains a query by itself.
-ghost use Rattle.std.specs.Prelude.{◌≡◌, ◌<◌, ◌≤◌, ◌*◌, ◌⊎◌, IfErr, IfSome, OnOk, Some, length};
+ghost use Rattle.std.specs.Prelude.{◌≡◌, ◌<◌, ◌≤◌, ◌*◌, ◌⊎◌, IfErr, IfSome, OnOk, Some, false};
+ghost use Rattle.std.specs.Prelude.{length};
 ghost use Rattle.laws_queries.specs.Queries.{PlainQuery};
-ghost use Rattle.laws_engine.specs.Engines.{Running, next_of};
+ghost use Rattle.laws_engine.specs.Engines.{Running};
 ghost use Rattle.query_runtime.specs.Passing.{HasOperators};
 ghost use Rattle.leases.specs.Alone.{HasRunAlone, HasStoppedOwn, IsReadyIn, MayPassOwn};
 ghost use Rattle.leases.specs.Alone.{MayRunAlone, OneOwnStep};
-ghost use Rattle.leases.specs.Forgets.{IsMarkable};
 ghost use Rattle.leases.specs.Jobs.{HasRunJob, IsQuota, MayRunJob};
 ghost use Rattle.leases.specs.Runs.{HasRunOn, HasStoppedOn, MayRunOn};
 ghost use Rattle.leases.specs.Views.{query_of, remains_of};
 
-use crate::reach::Reach;
 use crate::registered::Registration;
 use crate::remains::Remains;
-use crate::state::forget::next_behind;
 use crate::state::looks::slope_of;
 use crate::state::passing::FEW_INSTANTS;
 use column::Side;
@@ -64,15 +62,17 @@ pub(crate) struct Job {
     pub(crate) work: u64,
     /// Counts the numbers that its turns took.
     pub(crate) turns: u64,
+    /// Says whether the last of its turns ran out of memory, and so took fewer rows.
+    pub(crate) stopped: bool,
 }
 
-/// Says what became of a query that was drained by itself.
+/// Says how a query was drained by itself.
 #[derive(Drop)]
 struct Ran {
     /// Counts the numbers that its turns took.
     turns: u64,
-    /// Holds how far its answers reach, if a turn that had taken something ran out of memory.
-    broke: Option<Reach>,
+    /// Says whether the last of its turns ran out of memory, and so took fewer rows.
+    stopped: bool,
 }
 
 /// Drains the query of a job.
@@ -85,14 +85,12 @@ pub(crate) fn run_job(
 )
     requires quota { IsQuota quota }
     requires may { MayRunJob streams.now registered.now job.old }
-    ensures { HasRunJob streams.now registered.now quota job.old job.new }
+    ensures { HasRunJob streams.now quota job.old job.new }
 {
     let registration = &registered[job.query as usize];
     let ran = run_remains(&mut job.remains, streams, registration, alloc, quota);
     job.turns = ran.turns;
-    if let Some(reach) = ran.broke {
-        job.remains.give_up(reach);
-    }
+    job.stopped = ran.stopped;
 }
 
 /// Drains the running query.
@@ -108,7 +106,7 @@ fn run_remains(
         × MayRunAlone streams.now (query_of registration.now) p) }
     ensures { (p : PlainQuery) → remains_of remains.old ≡ Running p
         → (p2 : PlainQuery) × ((remains_of remains.new ≡ Running p2)
-        × HasRunAlone streams.now (query_of registration.now) quota p result p2) }
+        × HasRunAlone streams.now quota p result p2) }
 {
     match remains {
         Remains::Running(query) => run_alone(query, streams, registration, alloc, quota),
@@ -123,6 +121,8 @@ fn run_remains(
 /// one. So after the turns of the root nothing waits between operators, whatever the slopes are,
 /// unless one of several sources lags. If none lags, a gap can be passed there. A pass is tried
 /// there, and at the start.
+///
+/// It ends early if a turn runs out of memory. That turn did nothing, or it took fewer rows.
 fn run_alone(
     query: &mut RunningQuery,
     streams: &Streams,
@@ -132,34 +132,47 @@ fn run_alone(
 ) -> Ran
     requires quota { IsQuota quota }
     requires may { MayRunAlone streams.now (query_of registration.now) query.old }
-    ensures { HasRunAlone streams.now (query_of registration.now) quota query.old result query.new }
+    ensures { HasRunAlone streams.now quota query.old result query.new }
 {
     let mut turns = 0;
     let mut next: Option<Slot> = None;
     let mut settled = true;
     'turns: while turns < quota.turns {
         let Some(slot) = next_ready(query, streams, registration, &next) else {
-            return Ran { turns, broke: None };
+            return Ran {
+                turns,
+                stopped: false,
+            };
         };
-        let reach = reach_of(registration, query);
         match run_step(query, streams, &slot, settled, alloc, quota.rows) {
             Ok(()) => turns += 1,
-            Err(Refused::Before) => return Ran { turns, broke: None },
+            Err(Refused::Before) => {
+                return Ran {
+                    turns,
+                    stopped: false,
+                };
+            },
             Err(Refused::Within) => {
                 return Ran {
                     turns: turns + 1,
-                    broke: Some(reach),
+                    stopped: true,
                 };
             },
         }
         next = next_above(query, streams, registration, &slot);
         settled = query.len() <= slot.operator().saturating_add(1);
     }
-    Ran { turns, broke: None }
+    Ran {
+        turns,
+        stopped: false,
+    }
 }
 
 /// Runs a turn of the slot's operator in place. If a root ran last, or nothing yet, and the query
 /// has nothing to do at more than a few instants, it passes these instead.
+///
+/// # Errors
+/// `Refused` when out of memory. If it is `Within`, the turn was one of fewer rows.
 #[tactic(auto, using(crate::proofs::AloneLemmas::may_be_quiet))]
 fn run_step(
     query: &mut RunningQuery,
@@ -171,7 +184,7 @@ fn run_step(
 ) -> Result<(), Refused>
     requires has { HasOperators streams.now query.old }
     requires may { MayRunOn streams.now query.old slot.now rows }
-    ensures ok { OnOk result (OneOwnStep streams.now rows query.old query.new) }
+    ensures ok { OnOk result (OneOwnStep false streams.now rows query.old query.new) }
     ensures err { IfErr result (λ refused.
         HasStoppedOwn refused streams.now rows query.old query.new) }
 {
@@ -183,6 +196,9 @@ fn run_step(
 }
 
 /// Runs a turn of the slot's operator in place.
+///
+/// # Errors
+/// As of `run_step`.
 fn run_one(
     query: &mut RunningQuery,
     streams: &Streams,
@@ -294,15 +310,5 @@ fn is_no_later(slot: &Slot, other: &Slot) -> bool {
     match (slot.instant(), other.instant()) {
         (Some(at), Some(than)) => at <= than,
         _ => false,
-    }
-}
-
-/// Says how far the answers of a running query reach.
-fn reach_of(registration: &Registration, query: &RunningQuery) -> Reach
-    requires { IsMarkable (query_of registration.now) (Running query.now) }
-    ensures { result.next ≡ next_of (query_of registration.now) query.now }
-{
-    Reach {
-        next: next_behind(registration.first, query.last_tick()),
     }
 }

@@ -25,7 +25,7 @@ pub(crate) fn run_jobs<R: Threads + Sync>(
 )
     requires quota { IsQuota quota }
     requires may { MayRunJobs streams.now registered.now jobs.old }
-    ensures { HaveRunJobs streams.now registered.now quota jobs.old jobs.new }
+    ensures { HaveRunJobs streams.now quota jobs.old jobs.new }
 {
     if threads < 2 || jobs.len() < 2 {
         run_share(rt, streams, registered, alloc, quota, jobs);
@@ -65,18 +65,16 @@ fn run_both<R: Threads + Sync>(
     requires others { 0 < others }
     requires front { MayRunJobs streams.now registered.now front.old }
     requires back { MayRunJobs streams.now registered.now back.old }
-    ensures front { HaveRunJobs streams.now registered.now quota front.old front.new }
-    ensures back { HaveRunJobs streams.now registered.now quota back.old back.new }
+    ensures front { HaveRunJobs streams.now quota front.old front.new }
+    ensures back { HaveRunJobs streams.now quota back.old back.new }
 {
     let mut first = ||
         requires { IsSync R.row × IsQuota quota × MayRunJobs streams.now registered.now front.now }
-        ensures { HaveRunJobs streams.entry.now registered.entry.now quota front.entry.now
-            front.exit.now }
+        ensures { HaveRunJobs streams.entry.now quota front.entry.now front.exit.now }
     { run_jobs(rt, streams, registered, alloc, quota, fewer, front) };
     let mut second = ||
         requires { IsSync R.row × IsQuota quota × MayRunJobs streams.now registered.now back.now }
-        ensures { HaveRunJobs streams.entry.now registered.entry.now quota back.entry.now
-            back.exit.now }
+        ensures { HaveRunJobs streams.entry.now quota back.entry.now back.exit.now }
     { run_jobs(rt, streams, registered, alloc, quota, others, back) };
     thread::join_mut(rt, &mut first, &mut second);
 }
@@ -92,12 +90,11 @@ fn run_share<R: Threads + Sync>(
 )
     requires quota { IsQuota quota }
     requires may { MayRunJobs streams.now registered.now jobs.old }
-    ensures { HaveRunJobs streams.now registered.now quota jobs.old jobs.new }
+    ensures { HaveRunJobs streams.now quota jobs.old jobs.new }
 {
     let run = |_: usize, job: &mut Job|
         requires { IsQuota quota × MayRunJob streams.now registered.now job.now }
-        ensures { HasRunJob streams.entry.now registered.entry.now quota job.entry.now
-            job.exit.now }
+        ensures { HasRunJob streams.entry.now quota job.entry.now job.exit.now }
     { run_job(job, streams, registered, alloc, quota) };
     thread::for_each_mut(rt, jobs, 1, &run);
 }
@@ -112,7 +109,7 @@ pub(crate) fn run_all(
 )
     requires quota { IsQuota quota }
     requires may { MayRunJobs streams.now registered.now jobs.old }
-    ensures { HaveRunJobs streams.now registered.now quota jobs.old jobs.new }
+    ensures { HaveRunJobs streams.now quota jobs.old jobs.new }
 {
     for place in 0..jobs.len() {
         run_job(&mut jobs[place], streams, registered, alloc, quota);

@@ -121,7 +121,7 @@ fn reach(query: &Registration, remains: &Remains) -> Reach
 }
 
 /// Says how far the answers of a running query reach whose root took this tick last.
-pub(super) fn reach_of(query: &Registration, last: Option<u64>) -> Reach
+fn reach_of(query: &Registration, last: Option<u64>) -> Reach
     requires { (at : ℕ) → last ≡ Some at → at + 1 ≤ max query.now.first all_instants }
     ensures { result.next ≡ behind query.now.first last }
 {

@@ -1,12 +1,10 @@
-use Rattle.std.proofs.Common.{◌≡◌, ◌∙◌, ap, rules}
+use Rattle.std.proofs.Common.{◌∙◌, ap}
 use Rattle.group.specs.Keys.{in_set}
 use Rattle.group.proofs.SetLemmas.{in_set-again}
 use Rattle.group.proofs.keyed.make_room.Goals as goal
 
-pub returns-then-count-capacity : goal.returns-then-count-capacity
-returns-then-count-capacity g c = ap in_set c.settle.ensures ∙ in_set-again c.args.touched.now.items
+pub returns-clause-same : goal.returns-clause-same
+returns-clause-same g c = ap in_set (c.reserve.ensures.items ∙ c.settle.ensures) ∙ in_set-again c.args.touched.now.items
 
-pub returns : goal.returns
-returns g c =
-    let once : in_set c.settle.new.touched.items ≡ in_set c.args.touched.now.items = ap in_set c.settle.ensures ∙ in_set-again c.args.touched.now.items in
-    search rules
+pub returns-in_err-reserve-clause-same : goal.returns-in_err-reserve-clause-same
+returns-in_err-reserve-clause-same g c = ap in_set (c.reserve.ensures.items ∙ c.settle.ensures) ∙ in_set-again c.args.touched.now.items

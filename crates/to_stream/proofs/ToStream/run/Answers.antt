@@ -1,8 +1,7 @@
 use Rattle.std.proofs.Common.{sym, subst}
-use Rattle.to_stream.specs.Turns.{State}
+use Rattle.op_queue.specs.declared.item.Item.{Item}
 use Rattle.to_stream.specs.Law.{StepLaw}
-use Rattle.to_stream.proofs.StepLemmas.{step_law}
 use Rattle.to_stream.proofs.ToStream.run.Goals as goal
 
-pub returns-clause-law : goal.returns-clause-law
-returns-clause-law c = subst (λ (n : State). StepLaw c.args.self.now c.args.item.now n) (sym c.in_ok-turn.ensures.state) (step_law c.args.self.now c.args.item.now)
+pub returns-in-Ok-clause-law : goal.returns-in-Ok-clause-law
+returns-in-Ok-clause-law c = subst (λ (i : Item). StepLaw c.args.self.now i c.run_rows.new.self) (sym c.in-Rows.is) (c.in-Ok.ensures.law c.in-Rows.field-0)

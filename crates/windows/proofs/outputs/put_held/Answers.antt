@@ -1,6 +1,8 @@
-use Rattle.std.proofs.Common.{◌≡◌, ap, arith, drop, map, take, List}
+use Rattle.std.proofs.Common.{◌≡◌, ap, arith, drop, map, subst, sym, take, List}
 use Rattle.values.specs.Row.{Row}
-use Rattle.op_queue.proofs.GainLemmas.{gained-none, gained-same}
+use Rattle.op_queue.proofs.GainLemmas.{gained-none, gained-same, on_any_err}
+use Rattle.windows.specs.Grown.{HasGrownAt}
+use Rattle.windows.specs.Range.{with_sign}
 use Rattle.windows.proofs.LeavingLemmas.{forward_more, gained_more, rows_at, signed_part}
 use Rattle.windows.proofs.outputs.put_held.Goals as goal
 
@@ -23,7 +25,16 @@ loop-done-preserved c =
           gained_more c.args.at c.args.enters c.loop-done.done c.min-more.result (drop c.args.«from» rows) c.in_ok-batch.batch c.args.queue.now c.loop-done.queue c.push.new.self is c.loop-done.invariant.gained c.in_ok-push.ensures.entries c.in_ok-push.ensures.begins;
     }
 
-pub returns : goal.returns
-returns c =
+pub returns-clause-gained : goal.returns-clause-gained
+returns-clause-gained c =
     let done : c.loop-done.done ≡ c.args.count = omega arith in
     gained-same (ap (λ n. rows_at c.args.at c.args.enters (take n (drop c.args.«from» (map (λ h. h.1) c.args.held.now.held)))) done) c.loop-done.invariant.gained
+
+pub returns-in_err-batch-clause-err : goal.returns-in_err-batch-clause-err
+returns-in_err-batch-clause-err c =
+    on_any_err c.from_residual.result (map (with_sign c.args.enters) (take c.loop-done.done (drop c.args.«from» (map (λ h. h.1) c.args.held.now.held))), c.loop-done.invariant.gained)
+
+pub returns-in_err-push-clause-err : goal.returns-in_err-push-clause-err
+returns-in_err-push-clause-err c =
+    on_any_err c.from_residual-in_err-push.result
+    (subst (HasGrownAt c.args.at c.args.queue.now) (sym c.in_err-push.ensures.err) (map (with_sign c.args.enters) (take c.loop-done.done (drop c.args.«from» (map (λ h. h.1) c.args.held.now.held))), c.loop-done.invariant.gained))

@@ -2,6 +2,7 @@ use Rattle.std.proofs.Common.{◌≡◌, ◌∙◌, ◌+◌, ◌^◌, ◌<◌, �
 use Rattle.std.proofs.lemmas.List.Sums.{fold_more}
 use Rattle.group.specs.Batches.{row_in}
 use Rattle.group.specs.Cells.{Held, CellState, CellRoom}
+use Rattle.group.specs.Keys.{KeyedState}
 use Rattle.group.specs.Runs.{state_with}
 use Rattle.group.specs.Turns.{GroupState, cell_of, row_key, row_after, CountsUpTo}
 use Rattle.group.proofs.RoomLemmas.{room_at, all_room_le, room_after}
@@ -22,17 +23,23 @@ loop-place-preserved g c =
     let p = c.loop-place.place in
     let r = row_in c.args.batch.now p in
     let at : List (Held × CellState) → List Held → GroupState = λ cells touched. record { group = c.args.group.now; cells = cells; touched = touched } in
-    let e : state_with c.args.group.now c.take_in.new.self ≡ row_after s r = ap₂ at c.in_ok-take_in.ensures.cells c.in_ok-take_in.ensures.touched in
+    let e : state_with c.args.group.now c.take_in.new.self ≡ row_after s r = ap₂ at c.in_default.ensures.cells c.in_default.ensures.touched in
     let within : p < length c.args.batch.now = omega (arith, c.loop-place-test.true, c.len-place-end.ensures.value) in
     record {
       done = e ∙ ap (λ (t : GroupState). row_after t r) c.loop-place.invariant.done ∙ sym (fold_more row_after (state_with c.args.group.now c.args.self.now) c.args.batch.now p (true, []) within);
       room = λ n h.
           let more : n + p + 1 ≡ n + (p + 1) = omega arith in
           subst (λ (m : ℕ). CountsUpTo m (state_with c.args.group.now c.take_in.new.self)) more
-          (subst (CountsUpTo (n + p + 1)) (sym e) (room_after (n + p) s r c.in_ok-take_in.ensures.range (c.loop-place.invariant.room n h)));
+          (subst (CountsUpTo (n + p + 1)) (sym e) (room_after (n + p) s r c.in_default.ensures.range (c.loop-place.invariant.room n h)));
     }
 
 pub returns-clause-room : goal.returns-clause-room
 returns-clause-room g c = λ n h.
     all_room_le (n + c.loop-place.place) (n + 1024) c.args.group.now.items c.loop-place.self.cells
     (omega (arith, c.loop-place.auto.place-end, c.loop-place-test.false, c.len-place-end.ensures.value, c.len-place-end.ensures.batch.few)) (c.loop-place.invariant.room n h)
+
+pub returns-in-Err-clause-room : goal.returns-in-Err-clause-room
+returns-in-Err-clause-room g c = λ n h.
+    subst (λ (k : KeyedState). CountsUpTo (n + 1024) (state_with c.args.group.now k)) (sym c.in-Err.ensures.err)
+    (all_room_le (n + c.loop-place.place) (n + 1024) c.args.group.now.items c.loop-place.self.cells
+    (omega (arith, c.loop-place-test.true, c.len-place-end.ensures.value, c.len-place-end.ensures.batch.few)) (c.loop-place.invariant.room n h))

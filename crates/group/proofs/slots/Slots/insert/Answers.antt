@@ -25,8 +25,8 @@ invariant_of-self-2 g c =
     subst (λ (qs : List (Held × ℕ)). IsPlaced g.row.N qs h) (sym came)
     (placed_came g.row.N ps f h k p c.args.cell c.self.invariant sorted c.requires.fits new free now others)
 
-pub returns : goal.returns
-returns g c =
+pub returns-clause-ok : goal.returns-clause-ok
+returns-clause-ok g c =
     let k : Held = c.args.key.now in
     let ps : List (Held × ℕ) = c.self.inside.places.entries in
     let f : ℕ → Option (Held × CellState) = at_place c.self.inside.slots in

@@ -45,6 +45,6 @@ returns g c =
     let none : lookup (is_at (held_cmp k)) ps ≡ None = search rules in
     let new : has_key k es ≡ false = ap (λ (s : SlotsState). has_key k s.entries) (sym c.self.view_is) ∙ ap is_some (absent-held (at_place c.self.inside.slots) ps k none) in
     let cell : c.show-2.new.self ≡ showing (cell_zero n) (Some c.args.row.now) = c.in_ok-show-2.ensures ∙ ap (λ (d : CellState). showing d (Some c.args.row.now)) c.new-cell.ensures in
-    c.in_ok-insert.ensures
+    c.in_ok-insert.ensures.ok
     ∙ ap (λ (d : CellState). insert_entry held_cmp es k d) cell
     ∙ with_new k (showing (cell_of n k es) (Some c.args.row.now)) (showing (cell_zero n) (Some c.args.row.now)) es new

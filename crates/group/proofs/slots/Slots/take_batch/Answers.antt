@@ -49,6 +49,6 @@ returns-clause-cells g c =
     let none : lookup (is_at (held_cmp k)) ps ≡ None = search rules in
     let new : has_key k es ≡ false = ap (λ (s : SlotsState). has_key k s.entries) (sym c.self.view_is) ∙ ap is_some (absent-held (at_place c.self.inside.slots) ps k none) in
     let cell : c.take_batch-2.new.self ≡ fold (cell_after c.args.items.now) (cell_zero n) c.args.batch.now = c.in_ok-take_batch-2.ensures.cell ∙ ap (λ (d : CellState). fold (cell_after c.args.items.now) d c.args.batch.now) c.new-cell.ensures in
-    c.in_ok-place.ensures
+    c.in_ok-place.ensures.ok
     ∙ ap (λ (d : CellState). insert_entry held_cmp es k d) cell
     ∙ with_new k (fold (cell_after c.args.items.now) (cell_of n k es) c.args.batch.now) (fold (cell_after c.args.items.now) (cell_zero n) c.args.batch.now) es new

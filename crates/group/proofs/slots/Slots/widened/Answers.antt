@@ -24,7 +24,7 @@ loop-key-preserved g c =
     let old = c.loop-key.self.entries in
     let rest = c.pop_last.new.self.entries in
     let split : old ≡ rest ++ p ∷ [] = search rules in
-    moved-one g.row.N old rest c.loop-key.wider.entries c.insert.new.self.entries c.args.self.now.entries p c.copied.result split c.copied.ensures c.in_ok-insert.ensures c.loop-key.invariant
+    moved-one g.row.N old rest c.loop-key.wider.entries c.insert.new.self.entries c.args.self.now.entries p c.copied.result split c.copied.ensures c.in_ok-insert.ensures.ok c.loop-key.invariant
 
 pub returns : goal.returns
 returns g c =

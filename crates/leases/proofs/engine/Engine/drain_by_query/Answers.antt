@@ -8,7 +8,7 @@ use Rattle.leases.specs.declared.state.EngineState.{EngineState}
 use Rattle.leases.specs.declared.limits.TheConstants.{LEASE_NUMBERS}
 use Rattle.leases.proofs.ByQueryLemmas.{by_query_does, by_query_gives, by_query_machine, wants_all}
 use Rattle.leases.proofs.NumberLemmas.{spent}
-use Rattle.leases.proofs.WorldLemmas.{drains_wait, plenty_has}
+use Rattle.leases.proofs.WorldLemmas.{drains_wait}
 use Rattle.leases.proofs.engine.Engine.drain_by_query.Goals as goal
 
 pub returns-clause-does : goal.returns-clause-does
@@ -19,7 +19,7 @@ returns-clause-does g c =
     (c.drain_by_query.ensures.whole whole))
 
 pub returns-clause-whole : goal.returns-clause-whole
-returns-clause-whole g c = λ whole plenty. c.drain_by_query.ensures.whole (subst IsWhole (sym c.self.view_is) whole) (plenty_has c.drain_by_query.result plenty)
+returns-clause-whole g c = λ whole plenty. c.drain_by_query.ensures.whole (subst IsWhole (sym c.self.view_is) whole)
 
 pub returns-clause-all : goal.returns-clause-all
 returns-clause-all g c = drains_wait (engine_in c.drain_by_query.new.self) c.drain_by_query.result c.drain_by_query.ensures.sound.good c.drain_by_query.ensures.idle

@@ -3,7 +3,7 @@ use Rattle.std.proofs.Common.{◌≡◌, ◌∙◌, Err, Ok, inl, refl, sym}
 use Rattle.reference.specs.declared.fault.Fault.TheVariants.{OutOfMemory}
 use Rattle.leases.specs.ByQuery.{RunsByQuery}
 use Rattle.leases.specs.Shown.{engine_in}
-use Rattle.leases.proofs.ByQueryLemmas.{done_none, done_on, drained, failed_since, few_done, stays_whole}
+use Rattle.leases.proofs.ByQueryLemmas.{done_none, done_on, drained, few_done, less_since, less_whole, stays_whole}
 use Rattle.leases.proofs.DrainLemmas.{same_err}
 use Rattle.leases.proofs.state.EngineState.drain.Goals as goal
 
@@ -22,7 +22,7 @@ returns-in_err-run_each-clause-runs c =
     let few = few_done (engine_in c.args.self.now) (engine_in c.run_until.new.self) c.args.rows c.requires.good c.in_ok-run_until.ensures.runs in
     same_err c.from_residual-in_err-run_each.result OutOfMemory (λ r. RunsByQuery (engine_in c.args.self.now) c.args.rows r (engine_in c.run_each.new.self)) c.from_residual-in_err-run_each.ensures.1 (
       sym c.in_default.ensures.first,
-      inl (failed_since c.args.rows (engine_in c.args.self.now) (engine_in c.run_until.new.self) (engine_in c.run_each.new.self) few c.in_err-run_each.ensures.err),
+      inl (less_since c.args.rows (engine_in c.args.self.now) (engine_in c.run_until.new.self) (engine_in c.run_each.new.self) few c.in_err-run_each.ensures.err),
     )
 
 pub returns-clause-runs : goal.returns-clause-runs
@@ -32,8 +32,12 @@ returns-clause-runs c =
     (done_on c.args.rows (engine_in c.args.self.now) (engine_in c.run_until.new.self) (engine_in c.run_each.new.self) few c.in_ok-run_each.ensures.ok) c.run_turns.ensures.runs
 
 pub returns-clause-whole : goal.returns-clause-whole
-returns-clause-whole c = λ whole had.
+returns-clause-whole c = λ whole.
     let few = few_done (engine_in c.args.self.now) (engine_in c.run_until.new.self) c.args.rows c.requires.good c.in_ok-run_until.ensures.runs in
     c.run_turns.ensures.whole
     (stays_whole c.args.rows (engine_in c.args.self.now) (engine_in c.run_each.new.self) c.requires.good whole (c.run_each.ensures.others ∙ c.in_ok-run_until.ensures.others)
-    (done_on c.args.rows (engine_in c.args.self.now) (engine_in c.run_until.new.self) (engine_in c.run_each.new.self) few c.in_ok-run_each.ensures.ok)) had
+    (done_on c.args.rows (engine_in c.args.self.now) (engine_in c.run_until.new.self) (engine_in c.run_each.new.self) few c.in_ok-run_each.ensures.ok))
+
+pub returns-in_err-run_each-clause-whole : goal.returns-in_err-run_each-clause-whole
+returns-in_err-run_each-clause-whole c = λ whole.
+    less_whole c.args.rows (engine_in c.run_until.new.self) (engine_in c.run_each.new.self) c.in_ok-run_until.ensures.sound.good (c.in_ok-run_until.ensures.whole whole) c.run_each.ensures.others c.in_err-run_each.ensures.err

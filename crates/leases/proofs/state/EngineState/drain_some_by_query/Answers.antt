@@ -4,7 +4,7 @@ use Rattle.reference.specs.declared.fault.Fault.TheVariants.{OutOfMemory}
 use Rattle.leases.specs.ByQuery.{RunsByQuery}
 use Rattle.leases.specs.Drains.{as_drained}
 use Rattle.leases.specs.Shown.{engine_in}
-use Rattle.leases.proofs.ByQueryLemmas.{done_gives, drained, failed_takes, out_below, refused_by_query, stays_whole}
+use Rattle.leases.proofs.ByQueryLemmas.{done_gives, drained, less_takes, less_whole, out_below, refused_by_query, stays_whole}
 use Rattle.leases.proofs.DrainLemmas.{limit_is, never_full, never_out, only_looked, refused_drain, same_err}
 use Rattle.leases.proofs.state.EngineState.drain_some_by_query.Goals as goal
 
@@ -31,8 +31,8 @@ returns-clause-runs g c =
     c.in_ok-run_by_query.ensures.ok c.run_until.ensures.runs
 
 pub returns-clause-whole : goal.returns-clause-whole
-returns-clause-whole g c = λ whole had.
-    c.run_until.ensures.whole (stays_whole c.args.rows (engine_in c.args.self.now) (engine_in c.run_by_query.new.self) c.requires.good whole c.run_by_query.ensures.others c.in_ok-run_by_query.ensures.ok) had
+returns-clause-whole g c = λ whole.
+    c.run_until.ensures.whole (stays_whole c.args.rows (engine_in c.args.self.now) (engine_in c.run_by_query.new.self) c.requires.good whole c.run_by_query.ensures.others c.in_ok-run_by_query.ensures.ok)
 
 pub returns-in-Some-clause-below : goal.returns-in-Some-clause-below
 returns-in-Some-clause-below g c = λ out. absurd (never_out c.args.rows c.in-Some.fault c.in-Some.ensures.first out)
@@ -45,7 +45,7 @@ returns-in_err-run_by_query-clause-below g c = λ out. inl c.in_err-run_by_query
 
 pub returns-in_err-run_by_query-clause-looks : goal.returns-in_err-run_by_query-clause-looks
 returns-in_err-run_by_query-clause-looks g c = λ none.
-    absurd (omega (arith, none, c.in_err-run_by_query.ensures.most, failed_takes c.args.rows (engine_in c.args.self.now) (engine_in c.run_by_query.new.self) c.in_err-run_by_query.ensures.err))
+    absurd (omega (arith, none, c.in_err-run_by_query.ensures.most, less_takes c.args.rows (engine_in c.args.self.now) (engine_in c.run_by_query.new.self) c.in_err-run_by_query.ensures.err))
 
 pub returns-clause-below : goal.returns-clause-below
 returns-clause-below g c = λ out.
@@ -56,3 +56,7 @@ pub returns-clause-looks : goal.returns-clause-looks
 returns-clause-looks g c = λ none.
     let taken : c.args.self.now.next ≤ c.run_by_query.new.self.next = done_gives c.args.rows (engine_in c.args.self.now) (engine_in c.run_by_query.new.self) c.in_ok-run_by_query.ensures.ok in
     only_looked c.run_until.result c.run_by_query.new.self.next c.saturating_add-until.result c.run_until.ensures.looks (omega (arith, none, taken, c.saturating_add-until.ensures))
+
+pub returns-in_err-run_by_query-clause-whole : goal.returns-in_err-run_by_query-clause-whole
+returns-in_err-run_by_query-clause-whole g c = λ whole.
+    less_whole c.args.rows (engine_in c.args.self.now) (engine_in c.run_by_query.new.self) c.requires.good whole c.run_by_query.ensures.others c.in_err-run_by_query.ensures.err

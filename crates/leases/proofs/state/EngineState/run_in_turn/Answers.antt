@@ -1,6 +1,6 @@
 -- The jobs have their queries, and each has run, one after the other.
-use Rattle.std.proofs.Common.{slice_index_or, sym, subst}
-use Rattle.leases.specs.Jobs.{HasRunJob, MayRunJob}
+use Rattle.std.proofs.Common.{sym, subst}
+use Rattle.leases.specs.Jobs.{MayRunJob}
 use Rattle.leases.proofs.LendAllLemmas.{all_out, each_may}
 use Rattle.leases.proofs.state.EngineState.run_in_turn.Goals as goal
 
@@ -12,4 +12,4 @@ run_all-requires-clause-may c = λ i job lt is.
 pub returns : goal.returns
 returns c =
     all_out c.args.self.now c.requires.sound c.requires.returned c.lend.new.jobs c.lend.new.self c.lend.ensures c.args.quota c.run_all.new.jobs c.run_all.ensures.many
-    (λ i d lt. subst (λ rs. HasRunJob c.lend.new.self.streams rs c.args.quota (slice_index_or c.lend.new.jobs i d) (slice_index_or c.run_all.new.jobs i d)) c.deref.ensures.value (c.run_all.ensures.each i d lt))
+    c.run_all.ensures.each

@@ -1,7 +1,7 @@
 -- The jobs have their queries, and each has run.
-use Rattle.std.proofs.Common.{slice_index_or, sym, ap, subst}
+use Rattle.std.proofs.Common.{sym, ap, subst}
 use Rattle.laws_engine.specs.Engines.{PlainEngine}
-use Rattle.leases.specs.Jobs.{HasRunJob, MayRunJob}
+use Rattle.leases.specs.Jobs.{MayRunJob}
 use Rattle.leases.proofs.LendAllLemmas.{all_few, all_out, each_may}
 use Rattle.leases.proofs.state.EngineState.run_out.Goals as goal
 
@@ -13,7 +13,7 @@ run_jobs-requires-clause-may g c κs within = λ i job lt is.
 pub returns-clause-out : goal.returns-clause-out
 returns-clause-out g c =
     all_out c.args.self.now c.requires.sound c.requires.returned c.lend.new.jobs c.lend.new.self c.lend.ensures c.args.quota c.run_jobs.new.jobs c.run_jobs.ensures.many
-    (λ i d lt. subst (λ rs. HasRunJob c.lend.new.self.streams rs c.args.quota (slice_index_or c.lend.new.jobs i d) (slice_index_or c.run_jobs.new.jobs i d)) c.deref.ensures.value (c.run_jobs.ensures.each i d lt))
+    c.run_jobs.ensures.each
 
 pub returns-clause-next : goal.returns-clause-next
 returns-clause-next g c = ap (λ (z : PlainEngine). z.next) c.lend.ensures.bare.is
@@ -21,4 +21,4 @@ returns-clause-next g c = ap (λ (z : PlainEngine). z.next) c.lend.ensures.bare.
 pub returns-clause-most : goal.returns-clause-most
 returns-clause-most g c =
     all_few c.args.self.now c.requires.sound c.requires.returned c.lend.new.jobs c.lend.new.self c.lend.ensures c.args.quota c.run_jobs.new.jobs c.run_jobs.ensures.many
-    (λ i d lt. subst (λ rs. HasRunJob c.lend.new.self.streams rs c.args.quota (slice_index_or c.lend.new.jobs i d) (slice_index_or c.run_jobs.new.jobs i d)) c.deref.ensures.value (c.run_jobs.ensures.each i d lt))
+    c.run_jobs.ensures.each

@@ -1,9 +1,9 @@
 -- Each turn that goes out comes back, until no operator may take anything, the end is reached or something is scarce.
-use Rattle.std.proofs.Common.{◌≡◌, ◌≢◌, ◌<◌, ◌≤◌, Err, OnErr, refl, sym, ap, ◌∙◌, subst, arith}
+use Rattle.std.proofs.Common.{◌≡◌, ◌<◌, ◌≤◌, Err, OnErr, refl, sym, ap, ◌∙◌, subst, arith}
 use Rattle.reference.specs.declared.fault.Fault.TheVariants.{OutOfMemory, TooManyLeases}
 use Rattle.run_queue.specs.Slots.{first_of}
-use Rattle.leases.proofs.DrainLemmas.{ends_below, full_stays, has_none, has_run, have_given, none_run, refused_leaves, run_more, same_err, step_ends, step_stays, steps_count, steps_leave, steps_whole}
-use Rattle.leases.specs.Drains.{LeavesOthers, OneOrMoreHaveRun, RanOutBelow, RunsTurns, SomeHaveRun, as_drained}
+use Rattle.leases.proofs.DrainLemmas.{ends_below, full_stays, has_none, has_run, have_given, none_run, refused_leaves, refused_whole, run_more, same_err, step_ends, steps_count, steps_leave, steps_whole}
+use Rattle.leases.specs.Drains.{OneOrMoreHaveRun, RanOutBelow, RunsTurns, SomeHaveRun, as_drained}
 use Rattle.leases.specs.Shown.{engine_in}
 use Rattle.leases.specs.Whole.{IsWholeEngine}
 use Rattle.leases.proofs.state.EngineState.run_until.Goals as goal
@@ -19,15 +19,11 @@ returns-in_err-run_first-clause-runs c =
 
 pub returns-in_err-run_first-clause-others : goal.returns-in_err-run_first-clause-others
 returns-in_err-run_first-clause-others c =
-    same_err c.from_residual.result c.in_err-run_first.field-0.0 (λ r. LeavesOthers (engine_in c.args.self.now) (as_drained r) (engine_in c.run_first.new.self)) c.from_residual.ensures.1
-    (refused_leaves (engine_in c.args.self.now) (engine_in c.turns.self) (engine_in c.run_first.new.self) c.args.rows c.in_err-run_first.field-0.0 c.turns.invariant.others c.turns.invariant.sound.good c.in_err-run_first.ensures.runs)
+    refused_leaves (engine_in c.args.self.now) (engine_in c.turns.self) (engine_in c.run_first.new.self) c.args.rows c.in_err-run_first.field-0.0 c.turns.invariant.others c.turns.invariant.sound.good c.in_err-run_first.ensures.runs
 
 pub returns-in_err-run_first-clause-whole : goal.returns-in_err-run_first-clause-whole
-returns-in_err-run_first-clause-whole c = λ whole had.
-    same_err c.from_residual.result c.in_err-run_first.field-0.0 (λ r. r ≢ Err OutOfMemory → IsWholeEngine (engine_in c.run_first.new.self)) c.from_residual.ensures.1
-    (λ had_one.
-    let same : engine_in c.run_first.new.self ≡ engine_in c.turns.self = step_stays (engine_in c.turns.self) (engine_in c.run_first.new.self) c.args.rows c.in_err-run_first.field-0.0 c.in_err-run_first.ensures.runs (λ e. had_one (ap Err e)) in
-    subst IsWholeEngine (sym same) (c.turns.invariant.whole whole)) had
+returns-in_err-run_first-clause-whole c = λ whole.
+    refused_whole (engine_in c.turns.self) (engine_in c.run_first.new.self) c.args.rows c.in_err-run_first.field-0.0 (c.turns.invariant.whole whole) c.in_err-run_first.ensures.runs
 
 pub returns-in_err-run_first-clause-fewer : goal.returns-in_err-run_first-clause-fewer
 returns-in_err-run_first-clause-fewer c = λ is.
@@ -64,7 +60,7 @@ returns-then-not-branch-clause-idle c = λ is.
     ap (λ e. first_of e.slots) none.1 ∙ none.0
 
 pub returns-then-not-branch-clause-whole : goal.returns-then-not-branch-clause-whole
-returns-then-not-branch-clause-whole c = λ whole had.
+returns-then-not-branch-clause-whole c = λ whole.
     let none = has_none (engine_in c.turns.self) (engine_in c.run_first.new.self) c.args.rows c.in_ok-run_first.field-0 c.if-not-branch.true c.in_ok-run_first.ensures.runs in
     subst IsWholeEngine (sym none.1) (c.turns.invariant.whole whole)
 

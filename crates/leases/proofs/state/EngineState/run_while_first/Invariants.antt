@@ -1,7 +1,5 @@
 -- Up to here turns have run, and with the slots told the slot of the next turn stands first.
 use Rattle.std.proofs.Common.{◌-◌, ◌<◌}
-use Rattle.leases.specs.Runs.{HasLast}
-use Rattle.leases.specs.Shown.{engine_in}
 use Rattle.leases.proofs.TurnsLemmas.{AreRunning}
 use Rattle.leases.proofs.state.EngineState.run_while_first.Given as goal
 
@@ -9,7 +7,6 @@ abbrev pub invariant-turns : goal.invariant-turns
 invariant-turns l = record {
   running : AreRunning l.fn.self l.self l.fn.slot l.fn.above l.fn.rows l.turn;
   left : l.self.next < l.fn.until;
-  last : HasLast (engine_in l.self) l.fn.slot.query l.last;
 }
 
 -- each takes a number

@@ -1,11 +1,11 @@
--- The query of the last job comes home: it ran, or it broke.
-use Rattle.std.proofs.Common.{◌∙◌, ap, subst, sym}
+-- The query of the last job comes home, with its slots.
+use Rattle.std.proofs.Common.{◌∙◌, ap, refl, subst, sym}
 use Rattle.std.specs.List.{AllByRecursion}
 use Rattle.laws_engine.specs.Engines.{PlainEngine}
 use Rattle.leases.specs.Asked.{HasOperatorAt}
 use Rattle.leases.specs.Readers.{with_slots, with_updates}
 use Rattle.leases.specs.Shown.{engine_in}
-use Rattle.leases.proofs.JobLemmas.{comes_broken, comes_running, has_numbers, may_be_told, within}
+use Rattle.leases.proofs.JobLemmas.{has_numbers, home_runs, may_change, within}
 use Rattle.leases.specs.declared.state.EngineState.{EngineState}
 use Rattle.leases.proofs.state.EngineState.take_home.Goals as goal
 
@@ -15,25 +15,15 @@ put_back-requires-clause-here c = within c.requires.0 c.requires.1.0 c.requires.
 pub put_back-requires-clause-numbers : goal.put_back-requires-clause-numbers
 put_back-requires-clause-numbers c = has_numbers c.requires.0 c.requires.1.0 c.requires.1.1.0 c.args.job c.args.self.now c.requires.1.1.1
 
-pub returns-then-broke-clause-home : goal.returns-then-broke-clause-home
-returns-then-broke-clause-home c = λ e rows rest out.
-    comes_broken e rows rest c.args.job c.args.self.now out c.put_back.new.self c.put_back.ensures.engine c.put_back.ensures.undropped c.put_back.ensures.readers c.put_back.ensures.leases
-    (sym c.is_broken-broke.ensures ∙ c.if-broke.true) c.stop.new.self c.stop.ensures
-
 pub change_slots-requires : goal.change_slots-requires
 change_slots-requires c =
     subst (AllByRecursion (λ s. HasOperatorAt (engine_in c.put_back.new.self) s.query s.operator)) (sym c.deref.ensures.value)
-    (may_be_told c.requires.0 c.requires.1.0 c.requires.1.1.0 c.args.job c.args.self.now c.requires.1.1.1 c.put_back.new.self c.put_back.ensures.engine c.put_back.ensures.undropped c.put_back.ensures.readers c.put_back.ensures.leases
-    (sym c.is_broken-broke.ensures ∙ c.if-broke.false))
+    (may_change c.requires.0 c.requires.1.0 c.requires.1.1.0 c.args.job c.args.self.now c.requires.1.1.1 c.put_back.new.self c.put_back.ensures.engine c.put_back.ensures.undropped c.put_back.ensures.readers c.put_back.ensures.leases)
 
 pub returns-clause-home : goal.returns-clause-home
 returns-clause-home c = λ e rows rest out.
-    comes_running e rows rest c.args.job c.args.self.now out c.put_back.new.self c.put_back.ensures.engine c.put_back.ensures.undropped c.put_back.ensures.readers c.put_back.ensures.leases
-    (sym c.is_broken-broke.ensures ∙ c.if-broke.false) c.change_slots.new.self
-    (c.change_slots.ensures ∙ ap (λ ss. with_slots c.put_back.new.self (with_updates (engine_in c.put_back.new.self) ss c.put_back.new.self.slots)) c.deref.ensures.value)
-
-pub returns-then-broke-clause-next : goal.returns-then-broke-clause-next
-returns-then-broke-clause-next c = ap (λ (z : EngineState). z.next) c.stop.ensures.rest ∙ ap (λ (z : PlainEngine). z.next) c.put_back.ensures.engine
+    home_runs e rows rest c.args.job c.args.self.now out c.put_back.new.self c.put_back.ensures.engine c.put_back.ensures.undropped c.put_back.ensures.readers c.put_back.ensures.leases c.change_slots.new.self
+    (c.change_slots.ensures ∙ ap (λ ss. with_slots c.put_back.new.self (with_updates (engine_in c.put_back.new.self) ss c.put_back.new.self.slots)) c.deref.ensures.value) _ refl
 
 pub returns-clause-next : goal.returns-clause-next
 returns-clause-next c = ap (λ (z : EngineState). z.next) c.change_slots.ensures ∙ ap (λ (z : PlainEngine). z.next) c.put_back.ensures.engine

@@ -1,4 +1,4 @@
--- A query that runs is one running query; after a refusal it is as it was, or only its answers are.
+-- A query that runs is one running query; after a refusal it is as it was, or has run a turn of fewer rows.
 use Rattle.std.proofs.Common.{sym, ap, ◌∙◌}
 use Rattle.std.proofs.lemmas.Result.{IfErr-weaker, on_ok_weaker}
 use Rattle.leases.specs.Views.{remains_of}
@@ -13,4 +13,4 @@ returns-clause-ok c =
 pub returns-clause-err : goal.returns-clause-err
 returns-clause-err c =
     IfErr-weaker c.run.result _ _ (λ r f p is. f p (sym (ap remains_of c.in-Running.is) ∙ is))
-    (stopped_all c.run.result c.args.streams.now c.in-Running.query c.run.new.self c.args.slot.now c.operator.result c.side.result c.args.rows c.operator.ensures c.side.ensures c.run.ensures.err c.run.ensures.answers)
+    (stopped_all c.run.result c.args.streams.now c.in-Running.query c.run.new.self c.args.slot.now c.operator.result c.side.result c.args.rows c.operator.ensures c.side.ensures c.run.ensures.err)

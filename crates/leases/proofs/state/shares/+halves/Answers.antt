@@ -12,5 +12,5 @@ run_jobs-run_both-requires-clause-back g t c κs within =
 
 pub run_jobs-returns : goal.run_jobs-returns
 run_jobs-returns g t c =
-    both_shares c.args.streams.now c.args.registered.now c.args.quota c.args.jobs.now c.split_at_mut-front.result.0.now c.split_at_mut-front.result.1.now _ _
+    both_shares c.args.streams.now c.args.quota c.args.jobs.now c.split_at_mut-front.result.0.now c.split_at_mut-front.result.1.now _ _
     c.split_at_mut-front.ensures.value c.run_both.ensures.front c.run_both.ensures.back

@@ -3,4 +3,4 @@ use Rattle.leases.proofs.SharesLemmas.{HaveSomeRun}
 use Rattle.leases.proofs.state.shares.run_all.Given as goal
 
 abbrev pub invariant-loop-place : goal.invariant-loop-place
-invariant-loop-place l = HaveSomeRun l.streams l.registered l.quota l.fn.jobs l.jobs l.place
+invariant-loop-place l = HaveSomeRun l.streams l.quota l.fn.jobs l.jobs l.place

@@ -20,5 +20,6 @@ returns-clause-ok c =
 pub returns-clause-err : goal.returns-clause-err
 returns-clause-err c =
     IfErr-weaker c.run_below_at.result _ _
-    (λ r h. stopped_below c.args.streams.now _ c.args.self.now c.self.view_is c.args.operator c.args.side c.args.rows c.within_a_batch-rows.result c.within_a_batch-rows.ensures c.requires.may c.log-log.result.now c.log-log.ensures r c.run_below_at.new.operators.items h)
+    (λ r h. stopped_below c.args.streams.now _ c.args.self.now c.self.view_is c.args.operator c.args.side c.args.rows c.within_a_batch-rows.result c.within_a_batch-rows.ensures c.requires.may c.log-log.result.now c.log-log.ensures c.wire-wire.result c.wire-wire.ensures c.requires.below
+    c.run_below_at.new.operators.items r h c.run_below_at.ensures.only)
     c.run_below_at.ensures.err

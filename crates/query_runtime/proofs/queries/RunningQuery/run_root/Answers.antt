@@ -18,5 +18,5 @@ returns-clause-ok c =
 
 pub returns-clause-err : goal.returns-clause-err
 returns-clause-err c =
-    stopped_root c.args.streams.now _ c.args.self.now c.self.view_is c.args.operator c.args.side c.args.rows c.within_a_batch-rows.result c.within_a_batch-rows.ensures c.requires.may c.log-log.result.now c.log-log.ensures c.run_root_at.new.operators.items c.run_root_at.new.answers c.run_root_at.result
-    c.run_root_at.ensures.err c.run_root_at.ensures.answers
+    stopped_root c.args.streams.now _ c.args.self.now c.self.view_is c.args.operator c.args.side c.args.rows c.within_a_batch-rows.result c.within_a_batch-rows.ensures c.requires.may c.log-log.result.now c.log-log.ensures c.run_root_at.new.operators.items c.run_root_at.new.answers c.requires.root c.run_root_at.result
+    c.run_root_at.ensures.err c.run_root_at.ensures.only c.run_root_at.ensures.answers

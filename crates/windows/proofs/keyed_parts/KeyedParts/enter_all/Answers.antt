@@ -10,7 +10,7 @@ enter-requires g c =
     let key = c.key_in-key.result in
     let rows = part key c.loop-place.self in
     let wide = wide_as c.args.batch.now c.loop-place.place (signed c.row-row.result) rows c.row-row.ensures (omega arith) c.len-place-end.ensures.batch.one_width (c.loop-place.invariant.parts.wide key.items) in
-    (omega arith, (omega (arith, c.self.invariant), (c.loop-place.invariant.parts.few key.items, wide)))
+    (omega arith, (omega (arith, c.self.invariant.narrow), (c.loop-place.invariant.parts.few key.items, wide)))
 
 pub loop-place-preserved : goal.loop-place-preserved
 loop-place-preserved g c =

@@ -35,7 +35,7 @@ enter-requires g c =
     let is = c.loop-place.invariant.came key in
     let few = came_few columns key.items b p rows c.len.ensures.batch.few is in
     let wide = came_wide columns key.items b p (signed c.row-row.result) rows c.row-row.ensures (omega arith) c.len.ensures.batch.one_width is in
-    (omega arith, (omega (arith, c.self.invariant), (few, wide)))
+    (omega arith, (omega (arith, c.self.invariant.narrow), (few, wide)))
 
 pub loop-place-preserved : goal.loop-place-preserved
 loop-place-preserved g c =

@@ -1,4 +1,4 @@
-use Rattle.std.proofs.Common.{◌≡◌, ◌-◌, ℕ, Option, List, [], arith, subst, sym}
+use Rattle.std.proofs.Common.{◌≡◌, ◌-◌, ℕ, Option, [], arith, subst, sym}
 use Rattle.std.specs.List.{filter}
 use Rattle.windows.specs.Range.{RangeState, is_past}
 use Rattle.windows.proofs.StillLemmas.{none_past}

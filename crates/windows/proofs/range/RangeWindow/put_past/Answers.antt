@@ -35,4 +35,4 @@ returns-clause-gained c =
     let inside = c.self.inside in
     let is : take c.count_older-count.result (map (λ h. h.1) inside.held.held) ≡ near c.args.self.now (Tick c.args.at) =
     near_taken c.args.self.now inside.span inside.held.width c.args.at c.in-Some.span c.count_older-count.result c.saturating_sub.result inside.held.held c.self.view_is c.in-Some.is c.saturating_sub.ensures c.count_older-count.ensures.older in
-    gained-same (ap (leaving_at c.args.at) is) c.in_ok-put_held.ensures
+    gained-same (ap (leaving_at c.args.at) is) c.in_ok-put_held.ensures.gained

@@ -8,7 +8,7 @@ use Rattle.leases.specs.declared.state.EngineState.{EngineState}
 use Rattle.leases.specs.declared.limits.TheConstants.{LEASE_NUMBERS}
 use Rattle.leases.proofs.ByQueryLemmas.{by_query_does, by_query_gives, by_query_machine, wants_all}
 use Rattle.leases.proofs.NumberLemmas.{spent}
-use Rattle.leases.proofs.WorldLemmas.{drains_wait, plenty_has}
+use Rattle.leases.proofs.WorldLemmas.{drains_wait}
 use Rattle.leases.proofs.engine.answering.EngineAnswering.drain.Goals as goal
 
 pub returns-clause-does : goal.returns-clause-does
@@ -19,7 +19,7 @@ returns-clause-does c =
     (c.drain.ensures.whole whole))
 
 pub returns-clause-whole : goal.returns-clause-whole
-returns-clause-whole c = λ whole plenty. c.drain.ensures.whole (subst IsWhole (sym c.self.view_is) whole) (plenty_has c.drain.result plenty)
+returns-clause-whole c = λ whole plenty. c.drain.ensures.whole (subst IsWhole (sym c.self.view_is) whole)
 
 pub returns-clause-all : goal.returns-clause-all
 returns-clause-all c = drains_wait (engine_in c.drain.new.self) c.drain.result c.drain.ensures.sound.good c.drain.ensures.idle

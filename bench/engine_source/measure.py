@@ -1,6 +1,6 @@
 """Measures cqlrun beside plain.rs: bench/engine builds all three and says what is compared.
 
-usage: measure.py CQLRUN PLAIN TESTED FOLDER [SHARE | instructions]
+usage: measure.py CQLRUN PLAIN TESTED FOLDER [SHARE | instructions [WAY ...]]
 """
 
 import json
@@ -211,12 +211,13 @@ class Bench:
             print(f"{kind:<9} {rows:>8} {rows / mine:>10.0f} {rows / plain:>10.0f} "
                   f"{plain / mine:>8.2f}", flush=True)
 
-    def instructions(self):
-        """Instructions a row at span 100, by the difference of two runs."""
+    def instructions(self, names):
+        """Instructions a row at span 100, by the difference of two runs, of lines that come in the
+        ways of these names."""
         print(f"{'query':<9} {'lines':>10} {'engine':>8} {'by hand':>8} {'share':>6} {'goal':>5} "
               f"{'tested':>8} {'share':>6}   instructions a row, span 100")
-        ways = [(kind, *way) for kind in (*TEXTS, *MORE) for way in WAYS]
-        with ThreadPoolExecutor(os.cpu_count()) as pool:
+        ways = [(kind, *way) for way in WAYS if way[0] in names for kind in (*TEXTS, *MORE)]
+        with ThreadPoolExecutor(int(os.environ.get("JOBS", os.cpu_count() or 1))) as pool:
             for (kind, how, *_), (mine, hand, tests) in zip(ways, pool.map(self.of_a_row, ways)):
                 goal = GOALS[how].get(kind)
                 if goal and hand / mine < goal:
@@ -346,8 +347,11 @@ class Bench:
 def main():
     engine, plain, tested, folder = sys.argv[1:5]
     words = sys.argv[5:]
-    if words == ["instructions"]:
-        Bench(engine, plain, tested, folder, 1.0).instructions()
+    if words[:1] == ["instructions"]:
+        names = [name for name, *_ in WAYS]
+        if not {*words[1:]} <= {*names}:
+            sys.exit(f"bench/engine: the ways are {', '.join(names)}")
+        Bench(engine, plain, tested, folder, 1.0).instructions(words[1:] or names)
         if missed:
             print(f"missed: {', '.join(missed)}")
         sys.exit(1 if missed or differences else 0)

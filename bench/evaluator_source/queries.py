@@ -88,6 +88,12 @@ class Query:
         random.shuffle(self.conditions)
         self.choose_items(random)
 
+    def becomes_empty(self):
+        """Whether its relation is empty from some instants after the last row on: one of its
+        windows has a span, and it has no group without rows."""
+        is_empty_for_none = self.group_by or not self.is_grouped
+        return is_empty_for_none and any(it.span is not None for it in self.windows)
+
     def choose_items(self, random):
         width = len(self.names)
         some = lambda least, most: [

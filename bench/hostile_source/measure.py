@@ -14,15 +14,16 @@ from collections.abc import Iterator
 from typing import NamedTuple
 
 LONGEST = 300  # seconds of processor time that a run may take
+ENDED = 128 + signal.SIGXCPU  # the status of `time` if the program took longer
 INSTANTS = 65_536  # the most that a heartbeat closes
 Request = dict[str, object]
 
 
 class Cost(NamedTuple):
-    """What a run took: processor seconds, the peak of memory in MB, and bytes of replies."""
+    """What a run took: processor seconds, the peak of memory in MiB, and bytes of replies."""
 
     seconds: float
-    megabytes: float
+    mebibytes: float
     replies: int
     has_ended: bool
 
@@ -100,37 +101,43 @@ CASES = [
 
 
 def run(program: str, requests: Iterator[Request]) -> Cost:
-    """Runs a script, and returns what it took."""
-    with tempfile.TemporaryFile("w+") as script, tempfile.TemporaryFile() as replies:
+    """Runs a script, and returns what it took.
+
+    The peak is asked of `time`: what wait4 says of a child counts what its parent, Python, held."""
+    with (tempfile.TemporaryFile("w+") as script, tempfile.TemporaryFile() as replies,
+          tempfile.NamedTemporaryFile("w+") as said):
         for request in requests:
             print(json.dumps(request, separators=(",", ":")), file=script)
         script.seek(0)
-        process = subprocess.Popen([program], stdin=script, stdout=replies, preexec_fn=limit)
+        words = ["/usr/bin/time", "-f", "%M", "-o", said.name, program]
+        process = subprocess.Popen(words, stdin=script, stdout=replies, preexec_fn=limit)
         _, status, used = os.wait4(process.pid, 0)
         process.returncode = os.waitstatus_to_exitcode(status)
-        if process.returncode not in (0, -signal.SIGXCPU):
+        if process.returncode not in (0, ENDED):
             sys.exit(f"{program} ended with status {process.returncode}")
         seconds = used.ru_utime + used.ru_stime
+        # a line before it says if the program was ended
+        mebibytes = int(said.read().splitlines()[-1]) / 1024
         size = replies.seek(0, os.SEEK_END)
-        return Cost(seconds, used.ru_maxrss / 1024, size, process.returncode == 0)
+        return Cost(seconds, mebibytes, size, process.returncode == 0)
 
 
 def limit() -> None:
-    """Ends a run that takes too long."""
-    resource.setrlimit(resource.RLIMIT_CPU, (LONGEST, LONGEST))
+    """Ends a run that takes too long, by SIGXCPU: at the second limit it would be SIGKILL."""
+    resource.setrlimit(resource.RLIMIT_CPU, (LONGEST, LONGEST + 1))
 
 
 def main() -> None:
     """Prints a table of the hostile inputs, each beside the mild one."""
     program = sys.argv[1]
-    print("| Input | | Processor seconds | Peak MB | MB of replies | Times the mild one |")
+    print("| Input | | Processor seconds | Peak MiB | MB of replies | Times the mild one |")
     print("|---|---|---|---|---|---|")
     for what, hostile, requests, mild, others in CASES:
         cost, less = run(program, requests), run(program, others)
         for kind, it in ((mild, less), (hostile, cost)):
             more = "" if it.has_ended else "over "
             times = f"{more}{it.seconds / less.seconds:,.0f}" if it is cost else ""
-            print(f"| {what} | {kind} | {more}{it.seconds:.3f} | {it.megabytes:.0f} |"
+            print(f"| {what} | {kind} | {more}{it.seconds:.3f} | {it.mebibytes:.1f} |"
                   f" {it.replies / 1e6:.1f} | {times} |", flush=True)
 
 

@@ -142,15 +142,21 @@ class Postgres:
                               stdout=subprocess.PIPE).stdout
 
     def said(self, text):
-        return self.run(f"{POSTGRES}/psql", "-q", "-X", "-A", "-t", "-v", "ON_ERROR_STOP=1", "-h",
-                        self.folder, "-U", "bench", "postgres", given=text)
+        """What the server answers to a text, and what it says beside that."""
+        words = [f"{POSTGRES}/psql", "-q", "-X", "-A", "-t", "-v", "ON_ERROR_STOP=1", "-h",
+                 self.folder, "-U", "bench", "postgres"]
+        ran = subprocess.run(words, input=text, text=True, cwd="/", user=self.user,
+                             stdout=subprocess.PIPE, stderr=subprocess.PIPE)
+        if ran.returncode != 0:
+            sys.exit(f"bench/sqlite: PostgreSQL refused a statement:\n{ran.stderr}")
+        return ran.stdout, ran.stderr
 
     def stop(self):
         self.run(f"{POSTGRES}/pg_ctl", "-D", f"{self.folder}/data", "-m", "immediate", "stop")
 
     def answers(self, kind, span, rows, instants):
-        """The answers, and the seconds that they took: the server does all in one call, and the
-        instants of a line are one transaction."""
+        """The answers, and the processor seconds that they took: one process of the server does
+        all in one call, and the instants of a line are one transaction."""
         def inside(statement):
             return re.sub(r":(now|low|gone)\b", r"\1_", statement)
         width = WIDTHS[kind]
@@ -170,9 +176,8 @@ class Postgres:
             lines += ["\\."]
         lines += [
             "Analyze;",
-            "Create Procedure go(Inout seconds Double Precision) Language plpgsql As $$ Declare",
-            "began_ Timestamptz := clock_timestamp(); now_ Integer; low_ Integer; gone_ Integer;",
-            "first_ Integer; last_ Integer; Begin",
+            "Create Procedure go() Language plpgsql As $$ Declare",
+            "now_ Integer; low_ Integer; gone_ Integer; first_ Integer; last_ Integer; Begin",
             f"For first_ In Select generate_series(0, {instants - 1}, {STRIDE}) Loop",
             f"last_ := Least(first_ + {STRIDE}, {instants}) - 1;",
             *comes,
@@ -183,23 +188,30 @@ class Postgres:
             "End Loop; Commit;",
             # so that it plans by what a full window has
             f"If first_ In ({STRIDE}, {STRIDE * 10}, {STRIDE * 40}) Then Analyze; End If;",
-            "End Loop;",
-            "seconds := Extract(Epoch From clock_timestamp() - began_); End $$;",
-            "Call go(0);",
+            "End Loop; End $$;",
+            # what the next statement takes is said beside its answer
+            "Set client_min_messages = log;",
+            "Set log_statement_stats = on;",
+            "Call go();",
+            "Set log_statement_stats = off;",
+            "Reset client_min_messages;",
             "Select * From answers;",
         ]
-        seconds, *said = self.said("\n".join(lines)).split("\n")
+        said, beside = self.said("\n".join(lines))
         answers = []
-        for line in filter(None, said):
+        for line in filter(None, said.split("\n")):
             *values, count = (int(it) if it else None for it in line.split("|"))
             answers += [tuple(values)] * count
-        return answers, float(seconds)
+        user, system = re.findall(r"([\d.]+) s user, ([\d.]+) s system, ", beside)[0]
+        return answers, float(user) + float(system)
 
 
 def main():
     program, folder, share = sys.argv[1], sys.argv[2], float(sys.argv[3])
     signal.signal(signal.SIGTERM, lambda *_: sys.exit(1))
     postgres = Postgres(folder) if POSTGRES is not None else None
+    if postgres is None:
+        print("PostgreSQL is not installed: its columns stay empty")
     print(f"{'query':<9} {'span':>6} {'rows':>8} {'engine':>10} {'SQLite':>10} {'times':>6} "
           f"{'PostgreSQL':>10} {'times':>6}   rows a second, results kept by hand")
     status = 0

@@ -1,5 +1,5 @@
 """Runs each script with the first growth refused, then with the second, and so on until a run meets
-no refusal."""
+no refusal. Does so once more with several growths in a row, as many as a drain tries."""
 
 import json
 import os
@@ -9,13 +9,16 @@ from collections import Counter, defaultdict
 from concurrent.futures import ThreadPoolExecutor
 
 SEPARATOR = "\x1e\n"
+IN_A_ROW = (1, 8)  # growths that are refused; the second outlasts all tries of a drain
 BROKEN = {"error": "E15 Broken"}
 
 
-def ran(program, script, refuse, number):
+def ran(program, script, refuse, number, count):
     """The replies, or None where the run ended before the first; whether a growth was refused; and
-    whether a drain met that before its first turn took anything, and left all as it was."""
-    environment = {**os.environ, "LD_PRELOAD": refuse, "REFUSE_AT": str(number)}
+    whether a drain ran out of memory before its first turn took anything, and left all as it
+    was."""
+    environment = {**os.environ, "LD_PRELOAD": refuse, "REFUSE_AT": str(number),
+                   "REFUSE_COUNT": str(count)}
     run = subprocess.run([program], input=script, env=environment, capture_output=True, text=True,
                          timeout=60)
     was_refused, has_spared = "refused\n" in run.stderr, "spared\n" in run.stderr
@@ -48,27 +51,28 @@ def broken_query(requests, wanted, replies):
     return next(((name, len(rows[name])) for name in broken), None)
 
 
-def runs(program, refuse, script):
+def runs(program, refuse, script, count):
     """The replies of each run, from the first growth refused to the run that meets no refusal,
-    some at a time."""
+    some at a time. So many growths in a row are refused."""
     number = 1
     with ThreadPoolExecutor(os.cpu_count()) as pool:
         while True:
             some = range(number, number + 16 * os.cpu_count())
             for replies, was_refused, has_spared in pool.map(
-                    lambda it: ran(program, script, refuse, it), some):
+                    lambda it: ran(program, script, refuse, it, count), some):
                 yield replies, was_refused, has_spared
                 if not was_refused:
                     return
             number = some.stop
 
 
-def sweep(program, refuse, script, wanted):
-    """The growths refused, those at the start, those before the first turn of a drain, which break
-    nothing, and which queries were broken after how many answers, by turns and by drains."""
+def sweep(program, refuse, script, wanted, count):
+    """The runs in which growths were refused, those at the start, those before the first turn of a
+    drain, which break nothing, and which queries were broken after how many answers, by turns and
+    by drains. So many growths in a row are refused."""
     requests = [json.loads(line) for line in script.splitlines()]
     refused, at_start, spared, ends = 0, 0, 0, [Counter(), Counter()]
-    for replies, was_refused, has_spared in runs(program, refuse, script):
+    for replies, was_refused, has_spared in runs(program, refuse, script, count):
         if not was_refused:
             assert replies == wanted * 2
             continue
@@ -88,27 +92,38 @@ def sweep(program, refuse, script, wanted):
     return refused, at_start, spared, ends
 
 
-def main(program, refuse, stdin, stdout):
-    with open(stdin) as file:
-        scripts = file.read().split(SEPARATOR)
-    with open(stdout) as file:
-        replies = [json.loads(line) for line in file]
+def sweep_all(program, refuse, scripts, replies, count):
+    """Sweeps all scripts and prints what came of each. Returns how many runs refused a drain before
+    its first turn, and which queries broke, by turns and by drains."""
     first, all_spared, seen = 0, 0, [Counter(), Counter()]
     for script in scripts:
-        count = len(script.splitlines())
-        wanted, first = replies[first : first + count], first + count
-        refused, at_start, spared, (by_turns, by_drains) = sweep(program, refuse, script, wanted)
+        lines = len(script.splitlines())
+        wanted, first = replies[first : first + lines], first + lines
+        refused, at_start, spared, (by_turns, by_drains) = sweep(
+            program, refuse, script, wanted, count)
         all_spared, seen = all_spared + spared, [seen[0] + by_turns, seen[1] + by_drains]
-        print(f"{count} requests: {refused} growths refused in turn, "
+        print(f"{lines} requests: {count} in a row refused {refused} times, "
               f"{at_start} of them at the start, {spared} before a drain's first turn")
         for way, ends in ("turns", by_turns), ("drains", by_drains):
             told = ", ".join(f"{name} after {rows} answers: {times}"
                              for (name, rows), times in sorted(ends.items()))
             print(f"  by {way}, broken {told or 'none'}", flush=True)
-    assert all_spared, "each drain that wanted memory ran turns"
-    by_turns, by_drains = seen
-    assert ("p", 3) in by_turns, "no finish broke p behind its first three answers"
-    assert not by_drains, f"drains broke {by_drains}"
+    return all_spared, seen
+
+
+def main(program, refuse, stdin, stdout):
+    with open(stdin) as file:
+        scripts = file.read().split(SEPARATOR)
+    with open(stdout) as file:
+        replies = [json.loads(line) for line in file]
+    for count in IN_A_ROW:
+        spared, (by_turns, by_drains) = sweep_all(program, refuse, scripts, replies, count)
+        if count == 1:
+            assert not spared, "a drain ended though one growth alone was refused"
+            assert ("p", 3) in by_turns, "no finish broke p behind its first three answers"
+        else:
+            assert spared, "each drain that ran out of memory ran turns"
+        assert not by_drains, f"drains broke {by_drains}"
 
 
 if __name__ == "__main__":

@@ -1,5 +1,6 @@
 -- What a caller of the hub knows, from what the method under the lock ensures.
 use Rattle.std.proofs.Common.{◌≡◌, ◌∙◌, ℕ, ℤ, Bool, true, false, List, Option, Some, None, Result, Ok, Err, IfOk, IfErr, ap, inl, inr, refl, subst, sym}
+use Rattle.std.specs.Prelude.{IsSome, is_some}
 use Rattle.reference.specs.Machine.{Machine}
 use Rattle.reference.specs.Commands.{Command}
 use Rattle.histories.specs.Histories.{Told}
@@ -44,6 +45,10 @@ turned_or w t Q R old new rows is h = let m : Lends old rows t new = subst (λ x
 
 pub rested_by : (w : Rested) (P : Turn → Type 0) (Q : Type 0) (old new : PlainLocked) (rows : ℕ) → w ≡ rested.Rest → MatchRested w P Q (Rests old rows new) → (old : PlainLocked) × (new : PlainLocked) × Rests old rows new
 rested_by w P Q old new rows is h = let m : Rests old rows new = subst (λ x. MatchRested x P Q (Rests old rows new)) is h in (old, new, m)
+
+-- a loop that does not end by itself
+pub goes_on : {A : Type 0} (o : Option A) → IsSome o → o ≡ None → ⊥
+goes_on {A = A} o some none = absurd (let bad : false ≡ true = subst (λ (x : Option A). is_some x ≡ true) none some in cc)
 
 -- why none went out
 pub withheld : (f : Fault) (F : Type 0) (old new : PlainLocked) (rows : ℕ) → F × Withholds old rows f new → (old : PlainLocked) × (new : PlainLocked) × Withholds old rows f new

@@ -13,6 +13,7 @@ mod OpeningLemmas
 mod AcceptingLemmas
 mod KnownLemmas
 mod ReadyLemmas
+mod MeasureLemmas
 pub mod SendLemmas
 pub mod SizeLemmas
 pub mod WithheldLemmas

@@ -17,6 +17,7 @@ use Rattle.run_queue.specs.contracts.slots.Slot as slot
 use Rattle.run_queue.specs.contracts.queue.RunQueue as run_queue
 use Rattle.name_table.specs.contracts.table.NameTable as name_table
 use Rattle.leases.specs.contracts.reader.WindowReader as reader
+use Rattle.leases.specs.contracts.pace.Pace as pace
 use Rattle.column.specs.contracts.mask.Mask as mask
 use Rattle.column.specs.contracts.column.Column as column
 use Rattle.column.specs.contracts.batch.Batch as batch
@@ -300,8 +301,11 @@ plan_node_sync = search (sendable, crosses, condition_sync) depth 30 fits 100000
 plan_sync : IsSync plan.the_row
 plan_sync = declared_sync plan.the_type (search (sendable, crosses, plan_node_sync) depth 12 fits 100000, (search (sendable, crosses) depth 20 fits 100000, (search (sendable, crosses) depth 20 fits 100000, (search (sendable, crosses) depth 20 fits 100000, (resolved_sync, tt)))))
 
+pub pace_send : IsSend pace.the_row
+pace_send = search (sendable, crosses) depth 12
+
 pub registration_send : IsSend registration.the_row
-registration_send = declared_send registration.the_type (search (sendable, crosses, maps.crosses) depth 20 fits 100000, (Arc-send _ plan_send plan_sync, (search (sendable, crosses, slope_send) depth 12 fits 100000, (search (sendable, crosses) depth 20 fits 100000, (search sendable depth 12, (search sendable depth 12, (search (sendable, crosses) depth 12, (search sendable depth 12, (search sendable depth 12, (search sendable depth 12, tt))))))))))
+registration_send = declared_send registration.the_type (search (sendable, crosses, maps.crosses) depth 20 fits 100000, (Arc-send _ plan_send plan_sync, (search (sendable, crosses, slope_send) depth 12 fits 100000, (search (sendable, crosses) depth 20 fits 100000, (search sendable depth 12, (search sendable depth 12, (search (sendable, crosses) depth 12, (search sendable depth 12, (search sendable depth 12, (search sendable depth 12, (pace_send, tt)))))))))))
 
 pub remains_send : IsSend remains.the_row
 remains_send = search (sendable, running_send, answers_send) depth 20

@@ -5,3 +5,4 @@ pub mod Calls
 pub mod Reached
 pub mod Steps
 pub mod Tries
+pub mod Measures

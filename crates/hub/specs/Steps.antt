@@ -16,7 +16,7 @@ use Rattle.run_queue.specs.Slots.{first_of}
 use Rattle.laws_engine.specs.Engines.{PlainEngine, world_of}
 use Rattle.laws_engine.specs.Openings.{forgotten}
 use Rattle.laws_engine.specs.Promises.{AreCompleteUpto, HasAllWaiting}
-use Rattle.leases.specs.ByQuery.{HasRunOutBelow, RunsByQuery}
+use Rattle.leases.specs.ByQuery.{RunsByQuery}
 use Rattle.leases.specs.Drains.{LeavesOthers, RanOutBelow, RunsTurns, as_drained}
 use Rattle.leases.specs.Openings.{opening_in}
 use Rattle.leases.specs.Looks.{IsPending, WaitsAt, status_in_engine}
@@ -258,8 +258,7 @@ pub record DrainsSomeByQuery (old : PlainLocked) (rows turns : ℕ) (result : Re
   pub all : result ≡ Ok false → HasAllWaiting (engine_at new)
   pub rest : result ≡ Ok false → Hands new rows (Ok leased.Idle) new
   pub fewer : result ≡ Err TooManyLeases → (engine_at new).next < (engine_at old).next + turns
-  pub below : result ≡ Err OutOfMemory
-      → HasRunOutBelow rows ((engine_at old).next + turns) (engine_at old) (engine_at new)
+  pub below : result ≡ Err OutOfMemory → (engine_at new).next < (engine_at old).next + turns
   pub looks : turns ≡ 0 → (engine_at new ≡ engine_at old) × IfErr result (λ f. f ≡ BadLimit)
 
 -- a turn of at most so many rows goes out

@@ -3,12 +3,18 @@
 //! The contracts of a hub do not see these numbers: they change when it forgets, and nothing else.
 ghost use Rattle.std.specs.Prelude.{◌≡◌, ◌<◌, ◌≤◌, ◌+◌, ◌-◌, ◌*◌, ◌/◌, ◌^◌, ◌↔◌, ◌⊎◌, []};
 ghost use Rattle.std.specs.Prelude.{IsTrue, length, max, min, slice_get};
+ghost use Rattle.std.specs.List.{sum_by};
 ghost use Rattle.std.specs.Option.{option_map_or};
 ghost use Rattle.leases.specs.Openings.{opening_in};
+ghost use Rattle.hub.specs.Measures.{counted, values_held, values_of_command, values_of_entry};
+ghost use Rattle.hub.specs.Measures.{values_of_query, values_of_reply, values_of_rows};
+ghost use Rattle.hub.specs.Measures.{values_of_stream};
 
-use histories::{CommandKind, Receipt, ReplyKind};
+use histories::{Command, CommandKind, CommandReply, Entry, Receipt, ReplyKind};
 use leases::Opening;
+use reference::NewRows;
 use std::ops::Deref;
+use stream_store::Stored;
 
 /// Says how many values an entry counts as, besides its rows and answers.
 const ENTRY: u64 = 16;
@@ -52,8 +58,12 @@ impl HistoryMeasure {
     }
 
     /// Adds the entry that a receipt is of.
-    pub(crate) fn add(&mut self, receipt: &Receipt) {
-        self.values = self.values.saturating_add(values_of(receipt));
+    pub(crate) fn add(&mut self, receipt: &Receipt)
+        ensures { self.new ≡ record self.old {
+          values = counted (self.old.values + values_of_entry receipt.now.entry);
+        } }
+    {
+        self.values = self.values.saturating_add(values_of(receipt.entry()));
     }
 
     /// Returns whether it is time to forget, with a history of `entries` entries.
@@ -70,6 +80,7 @@ impl HistoryMeasure {
     /// Starts again after a forget that left this opening.
     pub(crate) fn restart(&mut self, opening: &Opening)
         ensures nothing { (self.new.values ≡ 0) × (self.new.resumes ≡ 0) }
+        ensures kept { self.new.kept ≡ counted (values_held (opening_in opening.now)) }
         ensures enough { self.new.enough ≡ self.old.limit - self.old.limit / 16 }
         ensures limit { self.new.limit ≡ self.old.limit }
     {
@@ -108,33 +119,85 @@ fn usual_of(limit: u64) -> u64
 }
 
 // Counts the values of an entry: those of its rows and answers, and those that it takes itself.
-fn values_of(receipt: &Receipt) -> u64 {
-    let rows = match receipt.entry().command().kind() {
-        CommandKind::Append { rows, .. } => {
-            let places = (rows.values().len() as u64).saturating_add(rows.instants().len() as u64);
-            places.saturating_mul(PLACE)
-        }
-        _ => 0,
-    };
-    let answers = match receipt.entry().reply().kind() {
-        ReplyKind::Rows(rows) => rows.deref().words() as u64,
-        _ => 0,
-    };
+fn values_of(entry: &Entry) -> u64
+    ensures { result ≡ counted (values_of_entry entry.now) }
+{
+    let rows = rows_of(entry.command());
+    let answers = answers_of(entry.reply());
     ENTRY.saturating_add(rows).saturating_add(answers)
+}
+
+// Counts the values of a command's rows.
+fn rows_of(command: &Command) -> u64
+    ensures { result ≡ counted (values_of_command command.now) }
+{
+    match command.kind() {
+        CommandKind::Append { rows, .. } => count_rows(rows),
+        CommandKind::Declare { .. } => 0,
+        CommandKind::Register { .. } => 0,
+        CommandKind::Heartbeat { .. } => 0,
+        CommandKind::Take { .. } => 0,
+        CommandKind::Drop { .. } => 0,
+    }
+}
+
+// Counts the values of rows that were appended.
+fn count_rows(rows: &NewRows) -> u64
+    ensures { result ≡ counted (values_of_rows rows.now) }
+{
+    let places = (rows.values().len() as u64).saturating_add(rows.len() as u64);
+    places.saturating_mul(PLACE)
+}
+
+// Counts the values of a reply's answers.
+fn answers_of(reply: &CommandReply) -> u64
+    ensures { result ≡ counted (values_of_reply reply.now) }
+{
+    match reply.kind() {
+        ReplyKind::Rows(rows) => rows.deref().words() as u64,
+        ReplyKind::Number(_) => 0,
+        ReplyKind::Done => 0,
+    }
 }
 
 // Counts the values that an opening holds: those of the rows that queries need, and those of the
 // answers that wait.
-fn kept_in(opening: &Opening) -> u64 {
-    let mut kept: u64 = 0;
-    for stream in opening.streams() {
-        let width = (stream.columns().len() as u64 + 1).saturating_mul(PLACE);
-        kept = kept.saturating_add((stream.kept() as u64).saturating_mul(width));
+fn kept_in(opening: &Opening) -> u64
+    ensures { result ≡ counted (values_held (opening_in opening.now)) }
+{
+    let rows = rows_in(opening.streams());
+    let answers = answers_in(opening);
+    rows.saturating_add(answers)
+}
+
+// Counts the values of the rows that streams keep.
+fn rows_in(streams: &[Stored]) -> u64
+    ensures { result ≡ counted (sum_by values_of_stream streams.now) }
+{
+    let mut values: u64 = 0;
+    for stream in streams {
+        values = values.saturating_add(stream_rows(stream));
     }
+    values
+}
+
+// Counts the values of the rows that a stream keeps.
+fn stream_rows(stream: &Stored) -> u64
+    ensures { result ≡ counted (values_of_stream stream.now) }
+{
+    let width = (stream.columns().len() as u64 + 1) * PLACE;
+    (stream.kept() as u64).saturating_mul(width)
+}
+
+// Counts the values of the answers that wait at all queries.
+fn answers_in(opening: &Opening) -> u64
+    ensures { result ≡ counted (sum_by values_of_query (opening_in opening.now).queries) }
+{
+    let mut values: u64 = 0;
     for query in 0..opening.queries() as u64 {
-        kept = kept.saturating_add(waiting_in(opening, query));
+        values = values.saturating_add(waiting_in(opening, query));
     }
-    kept
+    values
 }
 
 // Counts the values of the answers that wait at a query.

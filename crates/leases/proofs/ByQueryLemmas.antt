@@ -1,6 +1,7 @@
 -- A drain that takes query by query goes through turns of operators that might be leased, whatever their slopes.
-use Rattle.std.proofs.Common.{◌≡◌, ◌≢◌, ◌<◌, ◌≤◌, ◌+◌, ◌++◌, ◌⊎◌, ⊎_elim, inl, inr, ℕ, not, true, false, Some, None, Result, Ok, Err, IfErr, OnOk, List, [], ◌∷◌, length, map, refl, sym, ap, ◌∙◌, subst, arith}
-use Rattle.std.specs.Prelude.{⊤, Bool, ◌||◌, is_some}
+use Rattle.std.proofs.Common.{◌≡◌, ◌≢◌, ◌<◌, ◌≤◌, ◌+◌, ◌++◌, ◌⊎◌, ⊎_elim, inl, inr, ℕ, zero, suc, not, true, false, Some, None, Result, Ok, Err, IfErr, OnOk, List, [], ◌∷◌, length, map, refl, sym, ap, ◌∙◌, subst, arith}
+use Rattle.std.proofs.lemmas.Bool.Decides.{nat_tests}
+use Rattle.std.specs.Prelude.{⊤, Bool, ◌||◌, ◌&&◌, is_some, nat_le}
 use Rattle.std.specs.List.{AllByRecursion}
 use Rattle.values.specs.Row.{Row}
 use Rattle.reference.specs.World.{Drains, drain_fault, drain_step}
@@ -8,6 +9,9 @@ use Rattle.reference.specs.declared.fault.Fault.{Fault}
 use Rattle.reference.specs.declared.fault.Fault.TheVariants as fault
 use Rattle.reference.specs.declared.fault.Fault.TheVariants.{Query, BadName, NameTaken, BadColumns, TooMany, UnknownStream, UnknownQuery, BadWidth, ValueRange, InstantRange, Late, Backward, Leap, StreamFull, BadLimit, UnknownLease, Stranger, TooManyLeases, HistoryFull, OutOfMemory, Foreign}
 use Rattle.run_queue.specs.Slots.{first_of}
+use Rattle.run_queue.specs.Slots as slots
+use Rattle.names.specs.Faults as faults
+use Rattle.reference.specs.declared.limits.TheConstants.{MAX_TURN}
 use Rattle.turn.specs.declared.turns.Turn.{Turn}
 use Rattle.laws_engine.specs.Engines.{Broken, Dropped, GoodEngine, Lease, PlainEngine, PlainRemains, Running, remains_at, world_of}
 use Rattle.laws_engine.specs.Histories.{Finishes}
@@ -16,13 +20,13 @@ use Rattle.laws_engine.proofs.HistoryLemmas.{step_good}
 use Rattle.laws_engine.proofs.LeaseLemmas.{leasable_ready, ready_good}
 use Rattle.laws_engine.proofs.OrderLemmas.{finish_kinds, kind_on, kind_same, pass_kinds}
 use Rattle.laws_engine.proofs.PassingLemmas.{pass_good}
-use Rattle.leases.specs.ByQuery.{AnyStep, GoesAndComes, GoesOutOfAny, HasRunOut, HasRunOutBelow, HaveComeHome, HaveRunAny, IsAnyStep, LessAny, PassedAny, RanAny, RunsByQuery, SomeWereDone, SomeWereLess, is_less, one_was_less}
+use Rattle.leases.specs.ByQuery.{AnyStep, GoesAndComes, GoesOutOfAny, HasRunOut, HaveComeHome, HaveRunAny, IsAnyStep, LessAny, PassedAny, RanAny, RanShort, RanShortBelow, RunsByQuery, RunsOnce, SomeHaveRunAny, SomeWereDone, SomeWereLess, is_less, one_was_less}
 use Rattle.leases.specs.Drains.{HaveRun, IsDone, LeavesOthers, OneHasRunLess, Passed, Ran, RanOutBelow, RanOutOfMemory, RunsTurns, Step, as_drained}
 use Rattle.leases.specs.Sound.{is_gone}
 use Rattle.leases.specs.Turns.{HasReady, IsFull, IsTurnOf, lease_fault}
 use Rattle.leases.specs.Views.{lease_of}
 use Rattle.leases.specs.Whole.{IsWholeEngine}
-use Rattle.leases.specs.declared.limits.TheConstants.{LEASE_NUMBERS}
+use Rattle.leases.specs.declared.limits.TheConstants.{LEASE_NUMBERS, MAX_LEASES}
 use Rattle.leases.proofs.AloneLemmas.{or_neither}
 use Rattle.leases.proofs.DrainLemmas.{comes_machine, comes_next, limit_is}
 use Rattle.leases.proofs.NumberLemmas.{HasGivenMore}
@@ -80,18 +84,21 @@ came_home rows true false e e2 steps run is home = (steps, (run, none_less steps
 came_home rows false true e e2 steps run is home = (steps, (run, is))
 came_home rows false false e e2 steps run is home = absurd (let bad : false ≡ true = home in cc)
 
-runs_out_on : (rows : ℕ) (e1 e2 e3 : PlainEngine) → SomeWereDone rows e1 e2 → HasRunOut rows e2 e3 → HasRunOut rows e1 e3
+runs_out_on : (rows : ℕ) (e1 e2 e3 : PlainEngine) → SomeWereDone rows e1 e2 → RanShort rows e2 e3 → RanShort rows e1 e3
 runs_out_on rows e1 e2 e3 one h = ⊎_elim
     (λ less. inl (less_since rows e1 e2 e3 one less))
     (λ lacked. inr (done_on rows e1 e2 e3 one lacked.0, lacked.1, lacked.2))
     h
 
 -- whether or not one did
-abbrev SomeWereTried : ℕ → PlainEngine → PlainEngine → Type 0
-SomeWereTried rows old new = (steps : List AnyStep) × HaveRunAny rows old steps new
+done_any : (rows : ℕ) (e e2 : PlainEngine) → SomeWereDone rows e e2 → SomeHaveRunAny rows e e2
+done_any rows e e2 h = (h.0, h.1.0)
 
-tried : (rows : ℕ) (e e2 : PlainEngine) → HasRunOut rows e e2 → SomeWereTried rows e e2
-tried rows e e2 h = ⊎_elim (λ less. (less.0, less.1.0)) (λ lacked. (lacked.0.0, lacked.0.1.0)) h
+short_any : (rows : ℕ) (e e2 : PlainEngine) → RanShort rows e e2 → SomeHaveRunAny rows e e2
+short_any rows e e2 h = ⊎_elim (λ less. (less.0, less.1.0)) (λ lacked. done_any rows e e2 lacked.0) h
+
+some_on : (rows : ℕ) (e1 e2 e3 : PlainEngine) → SomeHaveRunAny rows e1 e2 → SomeHaveRunAny rows e2 e3 → SomeHaveRunAny rows e1 e3
+some_on rows e1 e2 e3 one two = (one.0 ++ two.0, any_on rows e1 e2 e3 one.0 two.0 one.1 two.1)
 
 -- A TURN OF GREATEST SLOPE is one of an operator that might be leased
 goes_of_any : (rows : ℕ) (e : PlainEngine) (t : Turn) (out : PlainEngine) → GoodEngine e → IsTurnOf e rows t out → GoesOutOfAny rows e (lease_of t) out
@@ -129,7 +136,7 @@ one_less rows e e2 good h =
     let turn : GoesAndComes h.count e (lease_of t) e2 = (h.ran.1.0, (goes_of_any h.count e t h.ran.1.0 good h.ran.1.1.0, h.ran.1.1.1)) in
     (LessAny h.count (lease_of t) ∷ [], ((e2, ((h.some, h.fewer, turn), refl)), refl))
 
-wanted_any : (rows : ℕ) (e e2 : PlainEngine) → GoodEngine e → RanOutOfMemory rows e e2 → HasRunOut rows e e2
+wanted_any : (rows : ℕ) (e e2 : PlainEngine) → GoodEngine e → RanOutOfMemory rows e e2 → RanShort rows e e2
 wanted_any rows e e2 good (inl h) = inr (done_none rows e e2 h.2, subst (λ z. lease_fault z rows ≡ None) (sym h.2) h.0, subst HasReady (sym h.2) h.1)
 wanted_any rows e e2 good (inr h) = inl (one_less rows e e2 good h)
 
@@ -137,13 +144,13 @@ wanted_any rows e e2 good (inr h) = inl (one_less rows e e2 good h)
 both_limits : (rows : ℕ) → drain_fault rows ≡ None → drain_fault rows ≡ Some BadLimit → ⊥
 both_limits rows a b = absurd (let bad : None ≡ Some BadLimit = sym a ∙ b in cc)
 
-pub drained : (old mid new : PlainEngine) (rows : ℕ) (r : Result ⊤ Fault) → GoodEngine mid → drain_fault rows ≡ None → SomeWereDone rows old mid → RunsTurns mid rows r new → RunsByQuery old rows r new
-drained old mid new rows (Ok u) good none first h = (none, done_on rows old mid new first (all_any rows h.1.0 mid new good h.1.1).1)
+pub drained : (old mid new : PlainEngine) (rows : ℕ) (r : Result ⊤ Fault) → GoodEngine mid → drain_fault rows ≡ None → SomeWereDone rows old mid → RunsTurns mid rows r new → RunsOnce old rows r new
+drained old mid new rows (Ok u) good none first h = done_on rows old mid new first (all_any rows h.1.0 mid new good h.1.1).1
 drained old mid new rows (Err BadLimit) good none first h = absurd (both_limits rows none h.0)
-drained old mid new rows (Err TooManyLeases) good none first h = (none, (done_on rows old mid new first (all_any rows h.1.0.0 mid new good h.1.0.1).1, h.1.1, h.1.2))
+drained old mid new rows (Err TooManyLeases) good none first h = (done_on rows old mid new first (all_any rows h.1.0.0 mid new good h.1.0.1).1, h.1.1, h.1.2)
 drained old mid new rows (Err OutOfMemory) good none first h =
     let ran = all_any rows h.1.1.0.0 mid h.1.0 good h.1.1.0.1 in
-    (none, runs_out_on rows old mid new first (runs_out_on rows mid h.1.0 new ran.1 (wanted_any rows h.1.0 new ran.0 h.1.1.1)))
+    runs_out_on rows old mid new first (runs_out_on rows mid h.1.0 new ran.1 (wanted_any rows h.1.0 new ran.0 h.1.1.1))
 drained old mid new rows (Err (Query x)) good none first h = absurd h
 drained old mid new rows (Err BadName) good none first h = absurd h
 drained old mid new rows (Err NameTaken) good none first h = absurd h
@@ -164,6 +171,122 @@ drained old mid new rows (Err Stranger) good none first h = absurd h
 drained old mid new rows (Err HistoryFull) good none first h = absurd h
 drained old mid new rows (Err (Foreign entries)) good none first h = absurd h
 
+-- TRIES with fewer rows each: a step of the later ones is one that took fewer
+fewer_step : (rows few : ℕ) (s : AnyStep) (e e2 : PlainEngine) → 0 < few → few < rows → IsAnyStep few e s e2 → (s2 : AnyStep) × IsAnyStep rows e s2 e2
+fewer_step rows few (RanAny l) e e2 some less h = (LessAny few l, (some, less, h))
+fewer_step rows few (PassedAny n b) e e2 some less h = (PassedAny n b, h)
+fewer_step rows few (LessAny n l) e e2 some less h = (LessAny n l, (h.0, omega (arith, h.1, less), h.2))
+
+fewer_steps : (rows few : ℕ) (steps : List AnyStep) (e e2 : PlainEngine) → 0 < few → few < rows → HaveRunAny few e steps e2 → SomeHaveRunAny rows e e2
+fewer_steps rows few [] e e2 some less h = ([], h)
+fewer_steps rows few (s ∷ steps) e e2 some less h =
+    let one = fewer_step rows few s e h.0 some less h.1.0 in
+    let later = fewer_steps rows few steps h.0 e2 some less h.1.1 in
+    (one.0 ∷ later.0, (h.0, (one.1, later.1)))
+
+fewer_any : (rows few : ℕ) (e e2 : PlainEngine) → 0 < few → few < rows → SomeHaveRunAny few e e2 → SomeHaveRunAny rows e e2
+fewer_any rows few e e2 some less h = fewer_steps rows few h.0 e e2 some less h.1
+
+allowed_too : (bad worse full : Bool) → faults.first_of ((bad, BadLimit) ∷ []) ≡ None → faults.first_of ((worse, BadLimit) ∷ (full, TooManyLeases) ∷ []) ≡ None → faults.first_of ((bad, BadLimit) ∷ (full, TooManyLeases) ∷ []) ≡ None
+allowed_too true worse full none h = absurd (let wrong : Some BadLimit ≡ None = none in cc)
+allowed_too false true full none h = absurd (let wrong : Some BadLimit ≡ None = h in cc)
+allowed_too false false full none h = h
+
+allowed_all : (e : PlainEngine) (rows few : ℕ) → drain_fault rows ≡ None → lease_fault e few ≡ None → lease_fault e rows ≡ None
+allowed_all e rows few none h =
+    allowed_too (not (nat_le 1 rows && nat_le rows MAX_TURN)) (not (nat_le 1 few && nat_le few MAX_TURN))
+    (is_some (slots.first_of e.slots) && (nat_le MAX_LEASES (length e.leases) || nat_le LEASE_NUMBERS e.next)) none h
+
+within_limits : (a b : Bool) → faults.first_of ((not (a && b), BadLimit) ∷ []) ≡ None → (a ≡ true) × (b ≡ true)
+within_limits true true h = (refl, refl)
+within_limits true false h = absurd (let wrong : Some BadLimit ≡ None = h in cc)
+within_limits false b h = absurd (let wrong : Some BadLimit ≡ None = h in cc)
+
+pub accepted_too : (rows few : ℕ) → drain_fault rows ≡ None → 0 < few → few < rows → drain_fault few ≡ None
+accepted_too rows few none some less =
+    let is : nat_le rows MAX_TURN ≡ true = (within_limits (nat_le 1 rows) (nat_le rows MAX_TURN) none).1 in
+    let within : rows ≤ MAX_TURN = grind (arith, nat_tests) in
+    let most : nat_le few MAX_TURN ≡ true = grind (arith, nat_tests) in
+    let one : nat_le 1 few ≡ true = grind (arith, nat_tests) in
+    subst (λ a. faults.first_of ((not (a && nat_le few MAX_TURN), BadLimit) ∷ []) ≡ None) (sym one)
+    (subst (λ b. faults.first_of ((not (true && b), BadLimit) ∷ []) ≡ None) (sym most) refl)
+
+pub tried_again : (old mid new : PlainEngine) (rows few : ℕ) (r : Result ⊤ Fault) → drain_fault rows ≡ None → drain_fault few ≡ None → 0 < few → few < rows → RunsOnce old rows (Err OutOfMemory) mid → RunsByQuery mid few r new
+    → RunsByQuery old rows r new
+tried_again old mid new rows few (Ok u) none fine some less first h = (none, some_on rows old mid new (short_any rows old mid first) (fewer_any rows few mid new some less h.1))
+tried_again old mid new rows few (Err BadLimit) none fine some less first h = absurd (both_limits few fine h.0)
+tried_again old mid new rows few (Err TooManyLeases) none fine some less first h = (none, (some_on rows old mid new (short_any rows old mid first) (fewer_any rows few mid new some less h.1.0), h.1.1, h.1.2))
+tried_again old mid new rows few (Err OutOfMemory) none fine some less first h =
+    (none, (some_on rows old mid new (short_any rows old mid first) (fewer_any rows few mid new some less h.1.0), allowed_all new rows few none h.1.1, h.1.2))
+tried_again old mid new rows few (Err (Query x)) none fine some less first h = absurd h
+tried_again old mid new rows few (Err BadName) none fine some less first h = absurd h
+tried_again old mid new rows few (Err NameTaken) none fine some less first h = absurd h
+tried_again old mid new rows few (Err BadColumns) none fine some less first h = absurd h
+tried_again old mid new rows few (Err TooMany) none fine some less first h = absurd h
+tried_again old mid new rows few (Err UnknownStream) none fine some less first h = absurd h
+tried_again old mid new rows few (Err UnknownQuery) none fine some less first h = absurd h
+tried_again old mid new rows few (Err BadWidth) none fine some less first h = absurd h
+tried_again old mid new rows few (Err ValueRange) none fine some less first h = absurd h
+tried_again old mid new rows few (Err InstantRange) none fine some less first h = absurd h
+tried_again old mid new rows few (Err Late) none fine some less first h = absurd h
+tried_again old mid new rows few (Err Backward) none fine some less first h = absurd h
+tried_again old mid new rows few (Err Leap) none fine some less first h = absurd h
+tried_again old mid new rows few (Err StreamFull) none fine some less first h = absurd h
+tried_again old mid new rows few (Err fault.Broken) none fine some less first h = absurd h
+tried_again old mid new rows few (Err UnknownLease) none fine some less first h = absurd h
+tried_again old mid new rows few (Err Stranger) none fine some less first h = absurd h
+tried_again old mid new rows few (Err HistoryFull) none fine some less first h = absurd h
+tried_again old mid new rows few (Err (Foreign entries)) none fine some less first h = absurd h
+
+-- A TRY that is not followed by another: none of a single row takes fewer
+is_no_less : (s : AnyStep) (e e2 : PlainEngine) → IsAnyStep 1 e s e2 → is_less s ≡ false
+is_no_less (RanAny l) e e2 h = refl
+is_no_less (PassedAny n b) e e2 h = refl
+is_no_less (LessAny n l) e e2 h = absurd (omega (arith, h.0, h.1))
+
+never_less : (steps : List AnyStep) (e e2 : PlainEngine) → HaveRunAny 1 e steps e2 → one_was_less steps ≡ false
+never_less [] e e2 h = refl
+never_less (s ∷ steps) e e2 h = subst (λ b. (b || one_was_less steps) ≡ false) (sym (is_no_less s e h.0 h.1.0)) (never_less steps h.0 e2 h.1.1)
+
+none_less_of_one : (rows : ℕ) (e e2 : PlainEngine) → drain_fault rows ≡ None → rows ≤ 1 → SomeWereLess rows e e2 → ⊥
+none_less_of_one zero e e2 none small h = absurd (let wrong : Some BadLimit ≡ None = none in cc)
+none_less_of_one (suc zero) e e2 none small h = absurd (let is : true ≡ false = sym h.1.1 ∙ never_less h.0 e e2 h.1.0 in cc)
+none_less_of_one (suc (suc n)) e e2 none small h = absurd (omega (arith, small))
+
+pub tried_last : (old new : PlainEngine) (rows : ℕ) (r : Result ⊤ Fault) → drain_fault rows ≡ None → (r ≡ Err OutOfMemory → rows ≤ 1) → RunsOnce old rows r new → RunsByQuery old rows r new
+tried_last old new rows (Ok u) none last h = (none, done_any rows old new h)
+tried_last old new rows (Err TooManyLeases) none last h = (none, (done_any rows old new h.0, h.1, h.2))
+tried_last old new rows (Err OutOfMemory) none last h = (
+  none,
+  ⊎_elim
+      (λ less. absurd (none_less_of_one rows old new none (last refl) less))
+      (λ lacked. (done_any rows old new lacked.0, lacked.1, lacked.2))
+      h,
+)
+tried_last old new rows (Err BadLimit) none last h = absurd h
+tried_last old new rows (Err (Query x)) none last h = absurd h
+tried_last old new rows (Err BadName) none last h = absurd h
+tried_last old new rows (Err NameTaken) none last h = absurd h
+tried_last old new rows (Err BadColumns) none last h = absurd h
+tried_last old new rows (Err TooMany) none last h = absurd h
+tried_last old new rows (Err UnknownStream) none last h = absurd h
+tried_last old new rows (Err UnknownQuery) none last h = absurd h
+tried_last old new rows (Err BadWidth) none last h = absurd h
+tried_last old new rows (Err ValueRange) none last h = absurd h
+tried_last old new rows (Err InstantRange) none last h = absurd h
+tried_last old new rows (Err Late) none last h = absurd h
+tried_last old new rows (Err Backward) none last h = absurd h
+tried_last old new rows (Err Leap) none last h = absurd h
+tried_last old new rows (Err StreamFull) none last h = absurd h
+tried_last old new rows (Err fault.Broken) none last h = absurd h
+tried_last old new rows (Err UnknownLease) none last h = absurd h
+tried_last old new rows (Err Stranger) none last h = absurd h
+tried_last old new rows (Err HistoryFull) none last h = absurd h
+tried_last old new rows (Err (Foreign entries)) none last h = absurd h
+
+pub last_below : (rows end : ℕ) (old new : PlainEngine) → drain_fault rows ≡ None → rows ≤ 1 → RanShortBelow rows end old new → new.next < end
+last_below rows end old new none small h = ⊎_elim (λ less. absurd (none_less_of_one rows old new none small less)) (λ below. below) h
+
 -- or it is refused
 pub refused_by_query : (e : PlainEngine) (rows : ℕ) (f : Fault) → Some f ≡ drain_fault rows → RunsByQuery e rows (Err f) e
 refused_by_query e rows f h =
@@ -171,11 +294,11 @@ refused_by_query e rows f h =
     subst (λ z. RunsByQuery e rows (Err z) e) (sym is) (sym h ∙ ap Some is, refl)
 
 -- WHAT A DRAIN GOES THROUGH
-pub ends : (old new : PlainEngine) (rows : ℕ) (r : Result ⊤ Fault) → RunsByQuery old rows r new → SomeWereTried rows old new
-ends old new rows (Ok u) h = (h.1.0, h.1.1.0)
+pub ends : (old new : PlainEngine) (rows : ℕ) (r : Result ⊤ Fault) → RunsByQuery old rows r new → SomeHaveRunAny rows old new
+ends old new rows (Ok u) h = h.1
 ends old new rows (Err BadLimit) h = ([], h.1)
-ends old new rows (Err TooManyLeases) h = (h.1.0.0, h.1.0.1.0)
-ends old new rows (Err OutOfMemory) h = tried rows old new h.1
+ends old new rows (Err TooManyLeases) h = h.1.0
+ends old new rows (Err OutOfMemory) h = h.1.0
 ends old new rows (Err (Query x)) h = absurd h
 ends old new rows (Err BadName) h = absurd h
 ends old new rows (Err NameTaken) h = absurd h
@@ -252,7 +375,7 @@ pub some_by_query : (old new : PlainEngine) (rows turns : ℕ) (r : Result Bool 
 some_by_query old new rows turns (Ok true) ran last idle some ready =
     let all : new.next ≡ old.next + turns = last refl in
     omega (arith, all, some)
-some_by_query old new rows turns (Ok false) ran last idle some ready = some_any rows ran.1.0 old new ran.1.1.0 ready (idle refl)
+some_by_query old new rows turns (Ok false) ran last idle some ready = some_any rows ran.1.0 old new ran.1.1 ready (idle refl)
 some_by_query old new rows turns (Err f) ran last idle some ready = tt
 
 -- NOTHING HAS RUN where no number was taken
@@ -276,13 +399,13 @@ less_takes rows e e2 h = takes h.0 e h.1.0 h.1.1 where
       omega (arith, one, more)
 
 pub none_by_query : (old new : PlainEngine) (rows : ℕ) (r : Result Bool Fault) → RunsByQuery old rows (as_drained r) new → new.next ≤ old.next → IfErr r (λ f. f ≡ BadLimit) → new ≡ old
-none_by_query old new rows (Ok more) ran none refused = done_nothing rows old new ran.1 none
+none_by_query old new rows (Ok more) ran none refused = none_any rows ran.1.0 old new ran.1.1 none
 none_by_query old new rows (Err f) ran none refused =
     let ended : RunsByQuery old rows (Err BadLimit) new = subst (λ (x : Fault). RunsByQuery old rows (Err x) new) refused ran in
     ended.1
 
 -- MEMORY RAN OUT before an end
-pub out_below : (rows end : ℕ) (old mid new : PlainEngine) → GoodEngine mid → SomeWereDone rows old mid → RanOutBelow rows end mid new → HasRunOutBelow rows end old new
+pub out_below : (rows end : ℕ) (old mid new : PlainEngine) → GoodEngine mid → SomeWereDone rows old mid → RanOutBelow rows end mid new → RanShortBelow rows end old new
 out_below rows end old mid new good first h =
     let ran = all_any rows h.1.0.0 mid h.0 good h.1.0.1 in
     ⊎_elim
@@ -313,7 +436,7 @@ broken_kind (Running p) answers upto h = absurd h
 broken_kind (Broken others there) answers upto h = ap (λ z. Broken z there) h.0 ∙ ap (Broken answers) h.1
 broken_kind Dropped answers upto h = absurd h
 
-tried_whole : (rows : ℕ) (old mid : PlainEngine) → GoodEngine old → IsWholeEngine old → mid.leases ≡ old.leases → SomeWereTried rows old mid → IsWholeEngine mid
+tried_whole : (rows : ℕ) (old mid : PlainEngine) → GoodEngine old → IsWholeEngine old → mid.leases ≡ old.leases → SomeHaveRunAny rows old mid → IsWholeEngine mid
 tried_whole rows old mid good whole leases h = record {
   returned = leases ∙ whole.returned;
   unbroken = λ n answers upto is. whole.unbroken n answers upto

@@ -36,8 +36,8 @@ GoesAndComes rows old l new =
     (out : PlainEngine) × (GoesOutOfAny rows old l out × IsCallStep out (Finishes l) new)
 
 -- A STEP: one goes out and comes back; or a query passes the instants below one at which it has
--- nothing to do; or a turn runs out of memory: it takes so many rows, fewer than it might, and
--- comes back
+-- nothing to do; or memory ran out, and a turn takes so many rows, fewer than it might, and comes
+-- back
 pub data AnyStep : Type 0 where
   RanAny : Lease → AnyStep
   PassedAny : ℕ → ℕ → AnyStep
@@ -48,7 +48,7 @@ IsAnyStep rows old (RanAny l) new = GoesAndComes rows old l new
 IsAnyStep rows old (PassedAny n b) new = HasPassed old n b new
 IsAnyStep rows old (LessAny n l) new = (0 < n) × (n < rows) × GoesAndComes n old l new
 
--- it ran out of memory
+-- it took fewer rows
 abbrev pub is_less : AnyStep → Bool
 is_less (RanAny l) = false
 is_less (PassedAny n b) = false
@@ -60,12 +60,16 @@ HaveRunAny rows old [] new = new ≡ old
 HaveRunAny rows old (s ∷ steps) new =
     (mid : PlainEngine) × (IsAnyStep rows old s mid × HaveRunAny rows mid steps new)
 
--- some were done, and none of them ran out of memory
+-- some have run
+abbrev pub SomeHaveRunAny : ℕ → PlainEngine → PlainEngine → Type 0
+SomeHaveRunAny rows old new = (steps : List AnyStep) × HaveRunAny rows old steps new
+
+-- some were done, and none of them took fewer rows
 abbrev pub SomeWereDone : ℕ → PlainEngine → PlainEngine → Type 0
 SomeWereDone rows old new = (steps : List AnyStep)
     × (HaveRunAny rows old steps new × AllByRecursion (λ s. is_less s ≡ false) steps)
 
--- or one or more of them ran out of memory, and took fewer rows
+-- or one or more of them did
 abbrev pub one_was_less : List AnyStep → Bool
 one_was_less [] = false
 one_was_less (s ∷ steps) = is_less s || one_was_less steps
@@ -74,29 +78,39 @@ abbrev pub SomeWereLess : ℕ → PlainEngine → PlainEngine → Type 0
 SomeWereLess rows old new = (steps : List AnyStep)
     × (HaveRunAny rows old steps new × (one_was_less steps ≡ true))
 
--- MEMORY RAN OUT: in one of the steps, which took fewer rows; or some were done, and then one that
--- might go out did nothing
+-- MEMORY RAN OUT for a turn of one row: some have run, and one that might go out did nothing
 abbrev pub HasRunOut : ℕ → PlainEngine → PlainEngine → Type 0
-HasRunOut rows old new = SomeWereLess rows old new
-    ⊎ (SomeWereDone rows old new × (lease_fault new rows ≡ None) × HasReady new)
+HasRunOut rows old new = SomeHaveRunAny rows old new × (lease_fault new rows ≡ None) × HasReady new
 
--- and it did so before an end: in one of the steps, or a number below the end was left for one more
-abbrev pub HasRunOutBelow : ℕ → ℕ → PlainEngine → PlainEngine → Type 0
-HasRunOutBelow rows end old new = SomeWereLess rows old new ⊎ (new.next < end)
-
--- A DRAIN by turns of at most so many rows: some were done; or it was refused where that number is
+-- A DRAIN by turns of at most so many rows: some have run; or it was refused where that number is
 -- out of range; or it ended where an operator may be leased and as many turns are out as may be, or
 -- all numbers were given; or memory ran out
 abbrev pub RunsByQuery : PlainEngine → ℕ → Result ⊤ Fault → PlainEngine → Type 0
-RunsByQuery old rows (Ok u) new = (drain_fault rows ≡ None) × SomeWereDone rows old new
+RunsByQuery old rows (Ok u) new = (drain_fault rows ≡ None) × SomeHaveRunAny rows old new
 RunsByQuery old rows (Err BadLimit) new = (drain_fault rows ≡ Some BadLimit) × (new ≡ old)
 RunsByQuery old rows (Err TooManyLeases) new =
-    (drain_fault rows ≡ None) × (SomeWereDone rows old new × IsFull new × HasReady new)
+    (drain_fault rows ≡ None) × (SomeHaveRunAny rows old new × IsFull new × HasReady new)
 RunsByQuery old rows (Err OutOfMemory) new =
     (drain_fault rows ≡ None) × HasRunOut rows old new
 RunsByQuery old rows (Err fault) new = ⊥
 
--- A QUERY CAME HOME: none of its steps ran out of memory, or one did
+-- ONE TRY of it, by turns of so many rows: memory ran out in one of the steps, which took fewer
+-- rows; or some were done, and then one that might go out did nothing
+abbrev pub RanShort : ℕ → PlainEngine → PlainEngine → Type 0
+RanShort rows old new = SomeWereLess rows old new
+    ⊎ (SomeWereDone rows old new × (lease_fault new rows ≡ None) × HasReady new)
+
+abbrev pub RunsOnce : PlainEngine → ℕ → Result ⊤ Fault → PlainEngine → Type 0
+RunsOnce old rows (Ok u) new = SomeWereDone rows old new
+RunsOnce old rows (Err TooManyLeases) new = SomeWereDone rows old new × IsFull new × HasReady new
+RunsOnce old rows (Err OutOfMemory) new = RanShort rows old new
+RunsOnce old rows (Err fault) new = ⊥
+
+-- and where it did so before an end, a number below the end was left for one more
+abbrev pub RanShortBelow : ℕ → ℕ → PlainEngine → PlainEngine → Type 0
+RanShortBelow rows end old new = SomeWereLess rows old new ⊎ (new.next < end)
+
+-- A QUERY CAME HOME: none of its steps took fewer rows, or one did
 abbrev pub HaveComeHome : ℕ → Bool → PlainEngine → PlainEngine → Type 0
 HaveComeHome rows true old new = SomeWereDone rows old new
 HaveComeHome rows false old new = SomeWereLess rows old new

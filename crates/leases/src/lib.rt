@@ -5,6 +5,7 @@ mod engine;
 mod leased;
 mod limits;
 mod opening;
+mod pace;
 mod reach;
 mod reader;
 mod registered;

@@ -5,6 +5,7 @@ ghost use Rattle.plan.specs.Paths.{plan_slopes};
 ghost use Rattle.plan.specs.Views.{nodes_of};
 ghost use Rattle.reference.specs.Opening.{all_instants};
 
+use crate::pace::Pace;
 use crate::remains::Remains;
 use envelope::Slope;
 use plan::{Node, Plan};
@@ -50,6 +51,8 @@ pub(crate) struct Registration {
     pub(crate) ever_taken: u64,
     /// Says whether it was dropped.
     pub(crate) is_dropped: bool,
+    /// Estimates the work of its next drain. Contracts do not see it.
+    pub(crate) pace: Pace,
     ghost early: { first ≤ all_instants },
     ghost sloped: { slopes.items
         ≡ plan_slopes (nodes_of (arc_value plan).nodes.items) (arc_value plan).measures.items },

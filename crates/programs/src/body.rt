@@ -15,13 +15,14 @@ ghost use Rattle.programs.specs.Run.{IsWrong, Leads, MayRunOut, Shares, SharesSe
 ghost use Rattle.programs.specs.Run.{ToldSome, fault_line};
 ghost use Rattle.programs.specs.Run.{turn_of};
 
-use crate::faults::{WRONG_WORDS, fail, lack_memory, tell};
-use crate::shared::run_workers;
+use crate::faults::{WRONG_WORDS, fail, lack_memory};
+use crate::shared::HubRun;
 use clap::Error;
 use clap::error::ErrorKind;
 use command_lines::{WordsFault, run_options};
 use leases::Engine;
 use reference::{Answering, Plain};
+use served::tell;
 use std::alloc::Global;
 use std::convert::AsStr;
 use std::sync::Wait;
@@ -246,16 +247,13 @@ pub fn run<'a, R: Threads + Wait + Sync, S: AsStr, I: Source, O: Sink, E: Sink>(
         Err(WordsFault::ForgetWithoutWorkers) => return refuse_to_forget(errors),
     };
     if let Some(workers) = options.workers {
-        return run_workers(
+        let hub_run = HubRun {
             rt,
             alloc,
             workers,
-            options.turn,
-            options.forget,
-            source,
-            sink,
-            errors,
-        );
+            turn: options.turn,
+        };
+        return hub_run.run_workers(options.forget, source, sink, errors);
     }
     if !options.is_plain {
         let engine = Engine::new(alloc);

@@ -5,18 +5,12 @@ ghost use Rattle.served.specs.Errors.{IsTold, memory_line};
 ghost use Rattle.programs.specs.Run.{differs_line, fault_line, no_server_text_line, no_text_line};
 ghost use Rattle.programs.specs.Run.{status_of};
 
+use served::{lack_server_memory, tell};
 use std::io::{Error, ErrorKind};
-use wire::{ScriptFault, Sink, put};
+use wire::{ScriptFault, Sink};
 
 /// Is the status after a wrong command line.
 pub(crate) const WRONG_WORDS: u8 = 2;
-
-/// Gives a sink of errors this text. Does nothing about a sink that fails.
-pub(crate) fn tell<E: Sink>(errors: &mut E, text: &str)
-    ensures { IsTold E.taken E.failures errors.old errors.new text.now }
-{
-    let _ = put(errors, text.as_bytes());
-}
 
 fn line_of(fault: &ScriptFault) -> &'static str
     ensures { result.now ≡ fault_line fault.now }
@@ -79,15 +73,6 @@ pub fn lack_words<E: Sink>(errors: &mut E, error: &Error) -> u8
     }
     tell(errors, "cqlrun: a word is not UTF-8\n");
     WRONG_WORDS
-}
-
-/// Writes that memory ran out at the start of `cqld`, and returns its status.
-pub fn lack_server_memory<E: Sink>(errors: &mut E) -> u8
-    ensures status { result ≡ 3 }
-    ensures told { IsTold E.taken E.failures errors.old errors.new memory_line }
-{
-    tell(errors, "cqld: out of memory\n");
-    3
 }
 
 /// Writes why the words of `cqld` could not be read, as `lack_words` does.

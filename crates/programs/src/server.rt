@@ -8,11 +8,11 @@ ghost use Rattle.wire.specs.Devices.{Rises};
 ghost use Rattle.programs.specs.Run.{IsOfRun, IsOfWrong, IsServerFailure, IsServerLack, IsWrong};
 ghost use Rattle.programs.specs.Run.{ToldSome};
 
-use crate::faults::{WRONG_WORDS, lack_server_memory, tell};
+use crate::faults::WRONG_WORDS;
 use clap::Error;
 use clap::error::ErrorKind;
 use command_lines::{ServeOptions, serve_options};
-use served::serve;
+use served::{lack_server_memory, serve, tell};
 use std::alloc::Global;
 use std::convert::AsStr;
 use std::net::{Net, TcpListener, TcpStream};

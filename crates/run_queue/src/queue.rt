@@ -197,9 +197,8 @@ fn insert(slots: &mut Vec<Slot>, at: usize, slot: &Slot)
     requires capacity { vec_len slots.old < vec_capacity slots.old }
     ensures { slots.new.items ≡ insert slots.old.items at slot.now }
 {
-    if slots.insert(at, *slot).is_err() {
-        unreachable!()
-    }
+    slots.push_reserved(*slot);
+    slots[at..].rotate_right(1);
 }
 
 /// Returns whether the slot belongs between the neighbours of a place.

@@ -78,7 +78,8 @@ impl<R: Threads + Wait + Sync> Drainer for OwnDrainer<'_, R> {
 
 // Runs turns in place until nothing is ready, some under one taking of the lock, so that other
 // clients are answered in between. A short drain goes turn by turn, and looks at no idle query.
-// After `TURNS_IN_PLACE` turns it goes query by query, in at most so many threads if they pay.
+// After `TURNS_IN_PLACE` turns it goes query by query, in at most so many threads if they pay. It
+// does so too once memory ran out for a turn, since the drain query by query tries fewer rows then.
 fn drain_in_place<R: Threads + Wait + Sync>(
     rt: &R,
     hub: &Hub,
@@ -87,17 +88,19 @@ fn drain_in_place<R: Threads + Wait + Sync>(
 ) -> Result<(), Fault>
     ensures { OnOk result (WasIdle rows) }
 {
-    if !hub.drain_some_alone(rt, rows, TURNS_IN_PLACE)? {
-        return Ok(());
+    match hub.drain_some_alone(rt, rows, TURNS_IN_PLACE) {
+        Ok(true) | Err(Fault::OutOfMemory) => {}
+        Ok(false) => return Ok(()),
+        Err(fault) => return Err(fault),
     }
     for _ in rt.forever() {
         match hub.drain_some_by_query(rt, rows, TURNS_BY_QUERY, threads) {
             Ok(true) => {}
-            Ok(false) => return Ok(()),
+            Ok(false) => break,
             Err(fault) => return Err(fault),
         }
     }
-    unreachable!()
+    Ok(())
 }
 
 // Runs turns in place, under the lock: a turn costs less there than in another thread. Returns the
@@ -149,7 +152,7 @@ fn run_turns<R: Threads + Wait + Sync>(
     }
     for _ in rt.forever() {
         let turn = match hub.lease(rt, rows) {
-            Ok(Leased::Idle) => return Reply::Done,
+            Ok(Leased::Idle) => break,
             Ok(Leased::Turn(turn)) => turn,
             Err(Fault::TooManyLeases) => return Reply::Refused(Fault::TooManyLeases),
             Err(_) => return Reply::Refused(Fault::OutOfMemory),
@@ -158,5 +161,5 @@ fn run_turns<R: Threads + Wait + Sync>(
             return Reply::Refused(Fault::OutOfMemory);
         }
     }
-    unreachable!()
+    Reply::Done
 }

@@ -8,10 +8,12 @@ mod connection;
 mod door;
 mod drains;
 mod duty;
+mod faults;
 mod keeper;
 mod lines;
 mod server;
 
 pub use connection::Connection;
+pub use faults::{lack_server_memory, tell};
 pub use lines::{run_hub, serve_connection};
 pub use server::{serve, serve_hub};

@@ -9,6 +9,7 @@ use crate::alarm::{Alarm, Failure};
 use crate::connection::Connection;
 use crate::door::Door;
 use crate::duty::{Duty, Telling, take_back};
+use crate::faults::{lack_server_memory, tell};
 use command_lines::{ServeOptions, TURN_ROWS};
 use hub::{Hub, MAX_HISTORY, Seat};
 use std::alloc::{AllocError, Global};
@@ -17,7 +18,7 @@ use std::sync::{Mutex, Wait};
 use std::thread::{JoinHandle, Threads};
 use std::time::Duration;
 use std::{io, thread};
-use wire::{ReaderSource, Sink, WriterSink, put};
+use wire::{ReaderSource, Sink, WriterSink};
 use workers::{NoGate, help};
 
 /// Runs the server once its listener is bound: says where it listens, answers connections, closes
@@ -48,7 +49,7 @@ pub fn serve<R: Threads + Wait + Sync, O: Sink, E: Sink>(
     let clients = options.clients as u64;
     match Hub::open(alloc, clients, MAX_HISTORY) {
         Ok((hub, seats)) => serve_hub(rt, alloc, listener, options, hub, seats, sink, errors),
-        Err(_) => lack_memory(errors),
+        Err(_) => lack_server_memory(errors),
     }
 }
 
@@ -77,15 +78,22 @@ pub fn serve_hub<R: Threads + Wait + Sync, O: Sink, E: Sink>(
         ⊎ IsTold E.taken E.failures errors.old errors.new thread_line }
 {
     if tell_address(alloc, &listener, sink).is_err() {
-        return lack_memory(errors);
+        return lack_server_memory(errors);
     }
     let left = options.serve.map(|connections| connections as u64);
     let threads = options.workers as usize;
     let door = Mutex::new(Door::new(listener, left, options.idle, options.forget, threads));
     let Ok(room) = Room::new(alloc, seats.len()) else {
-        return lack_memory(errors);
+        return lack_server_memory(errors);
     };
-    let (first, seats) = run_telling(rt, alloc, &door, &hub, seats, options.workers, room, errors);
+    let common = Common {
+        rt,
+        alloc,
+        door: &door,
+        hub: &hub,
+        workers: options.workers,
+    };
+    let (first, seats) = run_telling(common, seats, room, errors);
     let agrees = close(hub, seats);
     match first {
         Some(failure) => failure.status(),
@@ -112,14 +120,6 @@ fn tell_close<E: Sink>(agrees: bool, errors: &mut E) -> u8
     }
     tell(errors, "cqld: close failed\n");
     1
-}
-
-fn lack_memory<E: Sink>(errors: &mut E) -> u8
-    ensures status { result ≡ 3 }
-    ensures told { IsTold E.taken E.failures errors.old errors.new memory_line }
-{
-    tell(errors, "cqld: out of memory\n");
-    3
 }
 
 // Says where it listens. A write that fails is ignored, and so is an address that the system does
@@ -159,15 +159,26 @@ impl Room {
     }
 }
 
+// Holds what each thread of a server is given.
+#[derive(Drop)]
+struct Common<'a, R> {
+    // Provides threads and locks.
+    rt: &'a R,
+    // Provides memory.
+    alloc: Global,
+    // Lets the client threads in.
+    door: &'a Mutex<Door>,
+    // Is called by all threads.
+    hub: &'a Hub,
+    // Counts the workers.
+    workers: u32,
+}
+
 // Runs the threads, and returns the seats. Says on `errors` what fails first, as soon as it does,
 // and returns it.
 fn run_telling<R: Threads + Wait + Sync, E: Sink>(
-    rt: &R,
-    alloc: Global,
-    door: &Mutex<Door>,
-    hub: &Hub,
+    common: Common<'_, R>,
     seats: Vec<Seat>,
-    workers: u32,
     room: Room,
     errors: &mut E,
 ) -> (Option<Failure>, Vec<Seat>)
@@ -175,9 +186,7 @@ fn run_telling<R: Threads + Wait + Sync, E: Sink>(
 {
     let alarm = Alarm::new(seats.len() as u64);
     let duty = Telling { errors };
-    let ((errors, first), seats) = run_threads(
-        rt, alloc, door, &alarm, hub, seats, workers, room, duty,
-    );
+    let ((errors, first), seats) = run_threads(common, &alarm, seats, room, duty);
     take_back(errors);
     (first, seats)
 }
@@ -185,18 +194,21 @@ fn run_telling<R: Threads + Wait + Sync, E: Sink>(
 // Starts the threads while nobody may come in, does its duty, and returns the seats once the
 // clients have ended.
 fn run_threads<R: Threads + Wait + Sync, D: Duty + Drop>(
-    rt: &R,
-    alloc: Global,
-    door: &Mutex<Door>,
+    common: Common<'_, R>,
     alarm: &Alarm,
-    hub: &Hub,
     seats: Vec<Seat>,
-    workers: u32,
     room: Room,
     duty: D,
 ) -> (D::Output, Vec<Seat>)
     ensures { D.gives duty result.0 }
 {
+    let Common {
+        rt,
+        alloc,
+        door,
+        hub,
+        workers,
+    } = common;
     thread::scope(
         thread::scope_env(),
         rt,
@@ -311,11 +323,4 @@ fn prepare(stream: &TcpStream, idle: Option<u32>) -> io::Result<()> {
     let limit = idle.map(|seconds| Duration::from_secs(seconds as u64));
     stream.set_read_timeout(limit)?;
     stream.set_write_timeout(limit)
-}
-
-// A failed write of a text is ignored: the status says the rest.
-fn tell<E: Sink>(errors: &mut E, text: &str)
-    ensures { IsTold E.taken E.failures errors.old errors.new text.now }
-{
-    let _ = put(errors, text.as_bytes());
 }

@@ -10,6 +10,9 @@ use wire::{Reply, Request, answer};
 /// Limits the rows of the turns of a drain.
 const ROWS: u32 = 7;
 
+/// Limits how often a call is made that runs out of memory. It is more than growths are refused.
+pub(crate) const TRIES: u32 = 16;
+
 /// Is an engine under test, as its clients call it.
 #[derive(Drop)]
 pub(crate) struct Client {
@@ -67,19 +70,21 @@ impl Client {
         Err(Stop::Wrong("a drain that was refused lost answers\n"))
     }
 
-    /// Returns what the engine answers to a request. If that runs out of memory, all has to be as
-    /// it was, but a drain may have run turns. Then the request is made once more.
+    /// Returns what the engine answers to a request. Each time that this runs out of memory, all
+    /// has to be as it was, but a drain may have run turns. Then the request is made once more.
     fn ask(&mut self, alloc: Global, request: &Request) -> Result<Reply, Stop> {
-        let before = self.look(alloc)?;
-        let reply = answer(&mut self.engine, request, ROWS);
-        if !wants_memory(&reply) {
-            return Ok(reply);
+        for _ in 0..TRIES {
+            let before = self.look(alloc)?;
+            let reply = answer(&mut self.engine, request, ROWS);
+            if !wants_memory(&reply) {
+                return Ok(reply);
+            }
+            match request {
+                Request::Drain => self.expect_drained(alloc, &before)?,
+                _ => self.expect_same(alloc, &before)?,
+            }
         }
-        match request {
-            Request::Drain => self.expect_drained(alloc, &before)?,
-            _ => self.expect_same(alloc, &before)?,
-        }
-        Ok(answer(&mut self.engine, request, ROWS))
+        Err(Stop::Memory)
     }
 
     /// Returns what the engine answers to a request. A drain may be turns that go out and come

@@ -1,8 +1,8 @@
 //! Answers scripts over an engine of their own, by turns that go out and come back and by drains.
 //! It looks at all of the engine before and after a call that runs out of memory.
 //!
-//! The gate runs it with ample memory, and `bench/want_of_memory` refuses each of its growths in
-//! turn.
+//! The gate runs it with ample memory, and `bench/want_of_memory` refuses its growths in turn, one
+//! or several in a row.
 #![tactic(auto)]
 
 mod client;
@@ -10,7 +10,7 @@ mod looks;
 mod stop;
 mod worker;
 
-use crate::client::Client;
+use crate::client::{Client, TRIES};
 use crate::stop::Stop;
 use std::alloc::Global;
 use std::io::{self, Write};
@@ -40,18 +40,17 @@ fn answer_script(
 }
 
 /// Returns the replies to a script, and whether a drain of it ran out of memory and left all as it
-/// was. If the tests themselves run out of memory, the script is answered once more.
+/// was. Each time that the tests themselves run out of memory, the script is answered once more.
 fn replies_to(alloc: Global, script: &str, by_turns: bool) -> Result<(MemorySink, bool), Stop> {
-    let mut sink = MemorySink::new(alloc);
-    match answer_script(alloc, script, by_turns, &mut sink) {
-        Err(Stop::Memory) => {
-            let mut sink = MemorySink::new(alloc);
-            let has_spared = answer_script(alloc, script, by_turns, &mut sink)?;
-            Ok((sink, has_spared))
+    for _ in 0..TRIES {
+        let mut sink = MemorySink::new(alloc);
+        match answer_script(alloc, script, by_turns, &mut sink) {
+            Err(Stop::Memory) => {}
+            Err(wrong) => return Err(wrong),
+            Ok(has_spared) => return Ok((sink, has_spared)),
         }
-        Err(wrong) => Err(wrong),
-        Ok(has_spared) => Ok((sink, has_spared)),
     }
+    Err(Stop::Memory)
 }
 
 /// Writes the replies to all scripts of a text, which a record separator parts that no JSON text

@@ -1,27 +1,35 @@
 //! Runs turns that go out and come back.
+ghost use Rattle.turn.specs.Turns.{Fits};
 
-use crate::client::Client;
+use crate::client::{Client, TRIES};
 use crate::stop::Stop;
 use leases::{Engine, Leased};
 use reference::{Answering, Fault, NewRows};
 use std::alloc::{AllocError, Global};
-use turn::Done;
+use turn::{Done, Turn};
 
 /// Limits the rows of a turn.
 const ROWS: u32 = 1_024;
 
-/// Leases the next turn and runs it, a second time if the first run is out of memory. Returns
-/// `None` if no turn is left.
+/// Runs a turn, once more each time that it runs out of memory.
+fn run(alloc: Global, turn: Turn) -> Result<Done, Fault>
+    requires { Fits turn.node turn.item turn.near }
+{
+    let mut turn = turn;
+    for _ in 0..TRIES {
+        match turn.run(alloc) {
+            Ok(done) => return Ok(done),
+            Err(back) => turn = back,
+        }
+    }
+    Err(Fault::OutOfMemory)
+}
+
+/// Leases the next turn and runs it. Returns `None` if no turn is left.
 fn next(alloc: Global, engine: &mut Engine) -> Result<Option<Done>, Fault> {
     match engine.lease(ROWS)? {
         Leased::Idle => Ok(None),
-        Leased::Turn(turn) => match turn.run(alloc) {
-            Ok(done) => Ok(Some(done)),
-            Err(turn) => match turn.run(alloc) {
-                Ok(done) => Ok(Some(done)),
-                Err(_) => Err(Fault::OutOfMemory),
-            },
-        },
+        Leased::Turn(turn) => Ok(Some(run(alloc, turn)?)),
     }
 }
 
@@ -49,15 +57,17 @@ fn stranger(alloc: Global) -> Result<Done, Fault> {
 }
 
 impl Client {
-    /// Runs the next turn. If that runs out of memory, it leaves all as it was and is tried a
-    /// second time.
+    /// Runs the next turn. Each time that this runs out of memory, it leaves all as it was and is
+    /// tried once more.
     fn next_turn(&mut self, alloc: Global) -> Result<Option<Done>, Stop> {
-        let before = self.look(alloc)?;
-        if let Ok(turn) = next(alloc, &mut self.engine) {
-            return Ok(turn);
+        for _ in 0..TRIES {
+            let before = self.look(alloc)?;
+            if let Ok(turn) = next(alloc, &mut self.engine) {
+                return Ok(turn);
+            }
+            self.expect_same(alloc, &before)?;
         }
-        self.expect_same(alloc, &before)?;
-        Ok(next(alloc, &mut self.engine)?)
+        Err(Stop::Memory)
     }
 
     /// Brings a turn back that is not out, which leaves all as it was.

@@ -41,10 +41,11 @@ enum Outcome {
 /// turns, and goes on so while they are full: rows that fill a turn are worth a thread. The first
 /// of them that comes back wakes the other workers.
 ///
-/// After it ran out of memory it tries a turn outside the lock, with half as many rows each time.
-/// If memory runs out for a single row, or as many turns are out as may be, it waits for a change
-/// that `Locked::changes` counts. Its own steps count, so it may try once more before it waits. A
-/// take and an abandoned turn do not count.
+/// If memory runs out for a turn in place, it goes query by query, which tries fewer rows by
+/// itself. If it runs out for a turn outside the lock, it tries one of half as many rows each time.
+/// If there is no memory for a single row, or as many turns are out as may be, it waits for a
+/// change. Those are what `Locked::changes` counts. Its own steps count, so it may try once more
+/// before it waits. A take and an abandoned turn do not count.
 ///
 /// Before it looks for the end again, it runs at most 1,088 turns in place and 64 outside the lock.
 /// Tries that ran out of memory come on top.
@@ -63,13 +64,12 @@ pub fn help<R: Threads + Wait + Sync, G: Gate>(
 {
     for _ in rt.forever() {
         let Some(seen) = hub.wait_ready(rt) else {
-            return;
+            break;
         };
         if !help_once(rt, alloc, hub, gate, rows, threads) {
             hub.wait_for_change(rt, seen);
         }
     }
-    unreachable!()
 }
 
 // Runs some turns. Returns `false` if it could not go on.
@@ -81,26 +81,28 @@ fn help_once<R: Threads + Wait + Sync, G: Gate>(
     rows: u32,
     threads: usize,
 ) -> bool {
-    match run_in_place(rt, hub, rows, threads) {
+    match hub.drain_some_alone(rt, rows, TURNS_IN_PLACE) {
         Ok(false) => true,
-        Ok(true) => run_full_turns(rt, alloc, hub, gate, rows),
-        Err(Fault::OutOfMemory) => run_smaller_turn(rt, alloc, hub, gate, rows),
+        Ok(true) | Err(Fault::OutOfMemory) => run_more(rt, alloc, hub, gate, rows, threads),
         Err(_) => false,
     }
 }
 
-// Runs some turns in place, and many query by query if more is ready then. Returns whether more is
-// ready.
-fn run_in_place<R: Threads + Wait + Sync>(
+// Runs many turns in place, query by query, and some outside the lock if more is ready then.
+// Returns `false` if it could not go on: if memory ran out, it did so for a single row too.
+fn run_more<R: Threads + Wait + Sync, G: Gate>(
     rt: &R,
+    alloc: Global,
     hub: &Hub,
+    gate: &G,
     rows: u32,
     threads: usize,
-) -> Result<bool, Fault> {
-    if !hub.drain_some_alone(rt, rows, TURNS_IN_PLACE)? {
-        return Ok(false);
+) -> bool {
+    match hub.drain_some_by_query(rt, rows, TURNS_BY_QUERY, threads) {
+        Ok(false) => true,
+        Ok(true) => run_full_turns(rt, alloc, hub, gate, rows),
+        Err(_) => false,
     }
-    hub.drain_some_by_query(rt, rows, TURNS_BY_QUERY, threads)
 }
 
 // Runs turns outside the lock while they are full. Returns `false` if it could not go on.

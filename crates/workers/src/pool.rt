@@ -4,11 +4,11 @@ ghost use Rattle.reference.specs.declared.fault.Fault.TheVariants.{BadLimit, Out
 ghost use Rattle.reference.specs.declared.fault.Fault.TheVariants.{TooManyLeases};
 ghost use Rattle.reference.specs.World.{IsTurnSize};
 ghost use Rattle.hub.specs.Steps.{PlainLocked, Rests};
-ghost use Rattle.workers.specs.Lacks.{Lacks, WasFull, noted};
+ghost use Rattle.workers.specs.Lacks.{WasFull, noted};
 ghost use Rattle.workers.specs.declared.pool.TheConstants.{MAX_WORKERS};
 
 use crate::gate::Gate;
-use crate::want::{Lack, Want};
+use crate::want::Want;
 use crate::worker::run_to_rest;
 use hub::Hub;
 use reference::{Fault, MAX_TURN};
@@ -76,19 +76,8 @@ impl Pool {
         };
         match own.and(others) {
             Ok(()) => Ok(()),
-            Err(want) => Err(fault_of(&want)),
+            Err(want) => Err(want.fault),
         }
-    }
-}
-
-// Returns the fault that a pool answers, from what a worker was short of.
-fn fault_of(want: &Want) -> Fault
-    ensures fault { (result ≡ TooManyLeases) ⊎ (result ≡ OutOfMemory) }
-    ensures turns { result ≡ TooManyLeases → Lacks Lack.Turns }
-{
-    match want.lack {
-        Lack::Memory => Fault::OutOfMemory,
-        Lack::Turns => Fault::TooManyLeases,
     }
 }
 

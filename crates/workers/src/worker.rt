@@ -7,7 +7,7 @@ ghost use Rattle.workers.specs.Lacks.{Lacks};
 ghost use Rattle.workers.specs.Returns.{IsBroughtBack};
 
 use crate::gate::Gate;
-use crate::want::{Lack, Want};
+use crate::want::Want;
 use hub::{Hub, LeaseRest, LeaseWait};
 use reference::Fault;
 use std::alloc::Global;
@@ -25,16 +25,14 @@ pub fn work<R: Wait, G: Gate>(rt: &R, alloc: Global, hub: &Hub, gate: &G, rows: 
             Ok(LeaseWait::Turn(turn)) => {
                 let _ = run_turn(rt, alloc, hub, gate, turn);
             }
-            Ok(LeaseWait::Ended) => return,
+            Ok(LeaseWait::Ended) => break,
             Err(_) => {}
         }
     }
-    unreachable!()
 }
 
 /// Runs turns of at most `rows` rows until no operator may take anything and none is out. Returns
 /// what it is short of, and then holds no turn.
-#[tactic(auto, using(hub::proofs::WithheldLemmas::withheld_for))]
 pub(crate) fn run_to_rest<R: Wait, G: Gate>(
     rt: &R,
     alloc: Global,
@@ -49,16 +47,15 @@ pub(crate) fn run_to_rest<R: Wait, G: Gate>(
     for _ in rt.forever() {
         let turn = match hub.lease_or_rest(rt, rows) {
             Ok(LeaseRest::Turn(turn)) => turn,
-            Ok(LeaseRest::Rest) => return Ok(()),
-            Err(Fault::TooManyLeases) => return Err(Want { lack: Lack::Turns }),
-            Err(Fault::OutOfMemory) => return Err(Want { lack: Lack::Memory }),
-            Err(_) => unreachable!(),
+            Ok(LeaseRest::Rest) => break,
+            Err(fault) => return Err(Want { fault }),
         };
         if let Err(Fault::OutOfMemory) = run_turn(rt, alloc, hub, gate, turn) {
-            return Err(Want { lack: Lack::Memory });
+            let fault = Fault::OutOfMemory;
+            return Err(Want { fault });
         }
     }
-    unreachable!()
+    Ok(())
 }
 
 // Runs a turn between the gate's two calls, and brings it back.

@@ -52,12 +52,14 @@ impl Hub {
     }
 
     /// Drains in place, under the lock: runs turns of at most `rows` rows until no operator is
-    /// ready. Turns that are out stay out. Other calls wait meanwhile.
+    /// ready. Turns that are out stay out. Other calls wait meanwhile. After it ran out of memory
+    /// it goes on with half the rows, down to one.
     ///
     /// # Errors
     /// `BadLimit` if `rows` is not 1 to 1,024. `TooManyLeases` if an operator is ready while 64
-    /// turns are out or no number of a turn is left. `OutOfMemory` when out of memory. What ran
-    /// before the fault stays.
+    /// turns are out or no number of a turn is left. `OutOfMemory` if memory ran out even for a
+    /// turn of one row, which did nothing. The turns before the fault stay, some maybe with fewer
+    /// rows.
     ///
     /// Example: `a_hub_answers_two_seats` in crates/uses/src/hubs.rt.
     pub fn drain<R: Wait>(&self, rt: &R, rows: u32) -> Result<(), Fault>
@@ -100,8 +102,10 @@ impl Hub {
     /// nevertheless, and wakes the threads that wait if an operator is ready.
     ///
     /// # Errors
-    /// Those of `drain`. `TooManyLeases` and `OutOfMemory` only if an operator may take something
-    /// and fewer than `turns` turns have run.
+    /// `BadLimit` and `TooManyLeases` as `drain`. `OutOfMemory` when out of memory: the turn that
+    /// needed it did nothing, or took fewer rows. Both of the last two come only if an operator
+    /// could take something and a turn was left of the `turns`. One of fewer rows counts as one,
+    /// and then maybe nothing is ready. The turns before the fault stay.
     ///
     /// Example: `a_drain_lets_others_in` in crates/uses/src/hubs.rt.
     pub fn drain_some<R: Wait>(&self, rt: &R, rows: u32, turns: u64) -> Result<bool, Fault>
@@ -148,11 +152,12 @@ impl Hub {
     /// nevertheless.
     ///
     /// It is for much work, and looks at each query. It wakes nobody if more is ready: the caller
-    /// goes on. If it fails, it wakes all.
+    /// goes on. If it fails, it wakes all. After it ran out of memory it goes on with half the
+    /// rows, as `drain` does.
     ///
     /// # Errors
-    /// Those of `drain`. `TooManyLeases` and `OutOfMemory` only if an operator could take
-    /// something, and not after `turns` turns.
+    /// Those of `drain`. `TooManyLeases` and `OutOfMemory` only if an operator may take something
+    /// and fewer than `turns` turns have run.
     ///
     /// Example: `a_hub_drains_in_threads` in crates/uses/src/hubs.rt.
     pub fn drain_some_by_query<R: Threads + Wait + Sync>(
@@ -277,11 +282,11 @@ impl Hub {
         for _ in rt.forever() {
             match locked.lease_wait(rows)? {
                 Waited::Turn(turn) => return Ok(LeaseWait::Turn(turn)),
-                Waited::Ended => return Ok(LeaseWait::Ended),
+                Waited::Ended => break,
                 Waited::Idle => locked = self.moved.wait(rt, locked),
             }
         }
-        unreachable!()
+        Ok(LeaseWait::Ended)
     }
 
     /// Waits until an operator may take something, and returns how many changes there were. Returns
@@ -296,14 +301,14 @@ impl Hub {
         let mut locked = self.locked.lock(rt);
         for _ in rt.forever() {
             if locked.has_ended() {
-                return None;
+                break;
             }
             if locked.has_ready() {
                 return Some(locked.changes());
             }
             locked = self.moved.wait(rt, locked);
         }
-        unreachable!()
+        None
     }
 
     /// Waits until there were other changes than the first `seen`, or the end was called. It is for
@@ -317,11 +322,10 @@ impl Hub {
         let mut locked = self.locked.lock(rt);
         for _ in rt.forever() {
             if locked.has_ended() || locked.changes() != seen {
-                return;
+                break;
             }
             locked = self.moved.wait(rt, locked);
         }
-        unreachable!()
     }
 
     /// Hands out a turn, or waits until there is one or none is out. It takes no notice of the end.
@@ -341,10 +345,10 @@ impl Hub {
         for _ in rt.forever() {
             match locked.lease_or_rest(rows)? {
                 Rested::Turn(turn) => return Ok(LeaseRest::Turn(turn)),
-                Rested::Rest => return Ok(LeaseRest::Rest),
+                Rested::Rest => break,
                 Rested::Idle => locked = self.moved.wait(rt, locked),
             }
         }
-        unreachable!()
+        Ok(LeaseRest::Rest)
     }
 }

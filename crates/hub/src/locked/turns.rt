@@ -40,12 +40,14 @@ impl Locked {
     }
 
     /// Drains in place, as `Engine::drain` does: runs turns of at most `rows` rows until no
-    /// operator is ready. Turns that are out stay out.
+    /// operator is ready. Turns that are out stay out. After it ran out of memory it goes on with
+    /// half the rows, down to one.
     ///
     /// # Errors
     /// `BadLimit` if `rows` is not 1 to 1,024. `TooManyLeases` if an operator is ready while 64
-    /// turns are out or no number of a turn is left. `OutOfMemory` when out of memory. What ran
-    /// before the fault stays, and no query breaks.
+    /// turns are out or no number of a turn is left. `OutOfMemory` if memory ran out even for a
+    /// turn of one row, which did nothing. The turns before the fault stay, some maybe with fewer
+    /// rows, and no query breaks.
     #[tactic(auto, unfolding(crate::specs::Steps::engine_at))]
     pub fn drain(&mut self, rows: u32) -> Result<(), Fault>
         ensures step { self.new ≡ with_engine self.old self.new.engine }
@@ -77,8 +79,10 @@ impl Locked {
     /// out. With `turns` 0 it only looks.
     ///
     /// # Errors
-    /// Those of `drain`. `TooManyLeases` and `OutOfMemory` only if an operator may take something
-    /// and fewer than `turns` turns have run.
+    /// `BadLimit` and `TooManyLeases` as `drain`. `OutOfMemory` when out of memory: the turn that
+    /// needed it did nothing, or took fewer rows. Both of the last two come only if an operator
+    /// could take something and a turn was left of the `turns`. One of fewer rows counts as one,
+    /// and then maybe nothing is ready. The turns before the fault stay.
     #[tactic(auto, unfolding(crate::specs::Steps::engine_at), using(crate::proofs::ReadyLemmas::would_idle))]
     pub fn drain_some(&mut self, rows: u32, turns: u64) -> Result<bool, Fault>
         ensures step { self.new ≡ with_engine self.old self.new.engine }
@@ -90,11 +94,11 @@ impl Locked {
     /// Drains some turns in place, as `Engine::drain_some_by_query` does: at most `turns` turns of
     /// at most `rows` rows. It has at most `threads` threads if they pay. Returns whether an
     /// operator may still take something. Turns that are out stay out. With `turns` 0 it only
-    /// looks.
+    /// looks. After it ran out of memory it goes on with half the rows, as `drain` does.
     ///
     /// # Errors
-    /// Those of `drain`. `TooManyLeases` and `OutOfMemory` only if an operator could take
-    /// something, and not after `turns` turns.
+    /// Those of `drain`. `TooManyLeases` and `OutOfMemory` only if an operator may take something
+    /// and fewer than `turns` turns have run.
     #[tactic(auto, unfolding(crate::specs::Steps::engine_at), using(crate::proofs::ReadyLemmas::idle_by_query))]
     pub fn drain_some_by_query<R: Threads + Sync>(
         &mut self,

@@ -186,8 +186,8 @@ impl Answering for Engine {
     /// Gives up the rows that no query needs. Queues, turns that are out and waiting answers stay
     /// as they are. A broken query keeps its waiting answers and gets no more.
     ///
-    /// It costs the rows that are held times the windows over their streams, plus the waiting
-    /// answers, plus the queries.
+    /// It costs the rows that are held times the windows over their streams, plus the queries that
+    /// were ever registered. Waiting answers stay where they are.
     ///
     /// # Errors
     /// `OutOfMemory` when out of memory; then nothing has changed.

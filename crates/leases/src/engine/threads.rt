@@ -6,7 +6,7 @@ ghost use Rattle.reference.specs.declared.fault.Fault.TheVariants.{BadLimit, Out
 ghost use Rattle.reference.specs.declared.fault.Fault.TheVariants.{TooManyLeases};
 ghost use Rattle.run_queue.specs.Slots.{first_of};
 ghost use Rattle.laws_engine.specs.Promises.{HasAllWaiting, KeepsItsPromises};
-ghost use Rattle.leases.specs.ByQuery.{HasRunOutBelow, RunsByQuery};
+ghost use Rattle.leases.specs.ByQuery.{RunsByQuery};
 ghost use Rattle.leases.specs.Drains.{LeavesOthers, as_drained};
 ghost use Rattle.leases.specs.Shown.{engine_in, world_in};
 ghost use Rattle.leases.specs.Turns.{HasReady};
@@ -18,8 +18,8 @@ use std::thread::Threads;
 
 impl Engine {
     /// Does what `drain` does, in at most `threads` threads if they pay. Each gets a share of the
-    /// ready queries, with about as many rows as the others. They end before this returns. The work
-    /// of a thread that the system refuses is done by the caller.
+    /// ready queries. The shares are of about the same work, estimated by each query's last drain.
+    /// The threads end before this returns. If the system refuses one, the caller does its share.
     ///
     /// Threads pay if no turn is out and each has some 1,024 rows, a row counted for each window.
     /// If they do not, or `threads` is 1 or 0, this is `drain`.
@@ -27,8 +27,9 @@ impl Engine {
     /// # Errors
     /// `BadLimit` if `rows` is out of range; then nothing has changed. If an operator may take
     /// something: `TooManyLeases` if 64 turns are out or all numbers of turns were given;
-    /// `OutOfMemory` when out of memory. All turns that ran stay. A turn that needed the memory did
-    /// nothing, or it took fewer rows. Drain again to go on.
+    /// `OutOfMemory` when out of memory. Each time that memory runs out the drain goes on with half
+    /// the rows, and answers so only at a turn of one row, which does nothing. All turns that ran
+    /// stay. Drain again to go on.
     ///
     /// Example: `a_drain_takes_query_by_query` in crates/uses/src/engine.rt.
     pub fn drain_by_query<R: Threads + Sync>(
@@ -61,14 +62,14 @@ impl Engine {
     /// do counts as one turn. `rows` limits the rows of each turn: 1 to 1,024.
     ///
     /// Call it until it answers `false`, and let others have the engine in between. It is for much
-    /// work: it looks at each query that reads a stream. If a turn is out, it is `drain_some`. With
-    /// `turns` 0 it only looks.
+    /// work: it looks at each query that reads a stream. If a turn is out, it goes turn by turn.
+    /// With `turns` 0 it only looks.
     ///
     /// # Errors
     /// `BadLimit` if `rows` is out of range; then nothing has changed. `TooManyLeases` if 64 turns
-    /// are out or all numbers of turns were given. `OutOfMemory` when out of memory: a turn did
-    /// nothing, or turns of several queries took fewer rows. Both come only if an operator could
-    /// take something, and before `turns` turns have run or within them. All turns that ran stay.
+    /// are out or all numbers of turns were given. `OutOfMemory` as of `drain_by_query`. Both come
+    /// only if an operator may take something, and before `turns` turns have run. All turns that
+    /// ran stay.
     ///
     /// Example: `a_drain_takes_some_turns_of_each_query` in crates/uses/src/engine.rt.
     pub fn drain_some_by_query<R: Threads + Sync>(
@@ -90,8 +91,8 @@ impl Engine {
         ensures all { result ≡ Ok false → HasAllWaiting (engine_in self.new) }
         ensures fewer { result ≡ Err TooManyLeases
             → (engine_in self.new).next < (engine_in self.old).next + turns }
-        ensures below { result ≡ Err OutOfMemory → HasRunOutBelow rows
-            ((engine_in self.old).next + turns) (engine_in self.old) (engine_in self.new) }
+        ensures below { result ≡ Err OutOfMemory
+            → (engine_in self.new).next < (engine_in self.old).next + turns }
         ensures looks { turns ≡ 0 → (engine_in self.new ≡ engine_in self.old)
             × IfErr result (λ fault. fault ≡ BadLimit) }
         ensures others { LeavesOthers (engine_in self.old) (engine_in self.new) }

@@ -87,9 +87,10 @@ impl Engine {
     ///
     /// # Errors
     /// `BadLimit` if `rows` is out of range; then nothing has changed. `TooManyLeases` if 64 turns
-    /// are out or all numbers of turns were given. `OutOfMemory` when out of memory. Both come only
-    /// if an operator may take something and fewer than `turns` turns have run. The turns before
-    /// stay. The turn that needed the memory did nothing, or it took fewer rows.
+    /// are out or all numbers of turns were given. `OutOfMemory` when out of memory: the turn that
+    /// needed it did nothing, or it took fewer rows. Both come only if an operator could take
+    /// something and a turn was left of the `turns`. One of fewer rows counts as one, and then
+    /// maybe nothing is ready. The turns before stay.
     ///
     /// Example: `a_drain_stops_after_some_turns` in crates/uses/src/engine.rt.
     pub fn drain_some(&mut self, rows: u32, turns: u64) -> Result<bool, Fault>

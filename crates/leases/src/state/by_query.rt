@@ -2,14 +2,15 @@
 ghost use Rattle.std.specs.Prelude.{◌≡◌, ◌+◌, ◌*◌, ◌++◌, ◌<◌, ◌≤◌, ◌∷◌, ℕ, Err, IfErr, IfOk};
 ghost use Rattle.std.specs.Prelude.{IfSome, List, None, Ok, OnErr, OnOk, [], false, length, set};
 ghost use Rattle.std.specs.Prelude.{true};
+ghost use Rattle.reference.specs.World.{drain_fault};
 ghost use Rattle.reference.specs.declared.fault.Fault.TheVariants.{BadLimit, OutOfMemory};
 ghost use Rattle.reference.specs.declared.fault.Fault.TheVariants.{TooManyLeases};
 ghost use Rattle.run_queue.specs.Slots.{first_of};
 ghost use Rattle.laws_engine.specs.Engines.{Dropped, PlainEngine, remains_at};
 ghost use Rattle.leases.specs.Applied.{GivesNothing, with_remains};
 ghost use Rattle.leases.specs.Asked.{IsRunningAt};
-ghost use Rattle.leases.specs.ByQuery.{HasRunOutBelow, HaveComeHome, RunsByQuery, SomeWereDone};
-ghost use Rattle.leases.specs.ByQuery.{SomeWereLess};
+ghost use Rattle.leases.specs.ByQuery.{HaveComeHome, RanShortBelow, RunsByQuery, RunsOnce};
+ghost use Rattle.leases.specs.ByQuery.{SomeWereDone, SomeWereLess};
 ghost use Rattle.leases.specs.Drains.{LeavesOthers, as_drained};
 ghost use Rattle.leases.specs.Jobs.{AreJobsBelow, AreLent, AreNewJobs, AreOut, HaveFewTurns};
 ghost use Rattle.leases.specs.Jobs.{IsBare, IsQuota};
@@ -26,7 +27,7 @@ use crate::reader::WindowReader;
 use crate::remains::Remains;
 use crate::state::EngineState;
 use crate::state::jobs::{Job, MOST_TURNS, Quota};
-use crate::state::shares::{run_all, run_jobs, work_of};
+use crate::state::shares::{rows_of, run_all, run_jobs};
 use reference::{Fault, turn_fault};
 use std::alloc::AllocError;
 use std::mem::swap;
@@ -41,8 +42,7 @@ const ROWS_OF_A_THREAD: u64 = 1_024;
 const LOOKS_OF_A_TURN: u64 = 4;
 
 impl EngineState {
-    /// Runs a few turns, so that a short drain looks at no idle query. Then drains the ready
-    /// queries one after the other, and runs what is left, turn by turn.
+    /// Drains query by query. Once it ran out of memory it goes on with half the rows, down to one.
     pub(crate) fn drain(&mut self, rows: u32) -> Result<(), Fault>
         requires { IsSound self.old }
         ensures runs { RunsByQuery (engine_in self.old) rows result (engine_in self.new) }
@@ -54,6 +54,39 @@ impl EngineState {
         if let Some(fault) = turn_fault(rows) {
             return Err(fault);
         }
+        self.drain_by_halves(rows)
+    }
+
+    /// Tries to drain with turns of at most `rows` rows, and then of half as many each time that
+    /// memory runs out.
+    fn drain_by_halves(&mut self, rows: u32) -> Result<(), Fault>
+        requires sound { IsSound self.old }
+        requires accepted { drain_fault rows ≡ None }
+        ensures runs { RunsByQuery (engine_in self.old) rows result (engine_in self.new) }
+        ensures others { LeavesOthers (engine_in self.old) (engine_in self.new) }
+        ensures idle { OnOk result (first_of (engine_in self.new).slots ≡ None) }
+        ensures whole { IsWhole self.old → IsWhole self.new }
+        ensures sound { IsSound self.new }
+    {
+        match self.drain_once(rows) {
+            Err(Fault::OutOfMemory) if rows > 1 => self.drain_by_halves(rows / 2),
+            result => result,
+        }
+    }
+
+    /// Runs a few turns, so that a short drain looks at no idle query. Then drains the ready
+    /// queries one after the other, and runs what is left, turn by turn. It ends once one of the
+    /// turns that go turn by turn runs out of memory. It also ends if all jobs are home and a turn
+    /// of theirs took fewer rows.
+    fn drain_once(&mut self, rows: u32) -> Result<(), Fault>
+        requires sound { IsSound self.old }
+        requires accepted { drain_fault rows ≡ None }
+        ensures runs { RunsOnce (engine_in self.old) rows result (engine_in self.new) }
+        ensures others { LeavesOthers (engine_in self.old) (engine_in self.new) }
+        ensures idle { OnOk result (first_of (engine_in self.new).slots ≡ None) }
+        ensures whole { IsWhole self.old → IsWhole self.new }
+        ensures sound { IsSound self.new }
+    {
         let until = self.next.saturating_add(self.few_turns());
         if !self.run_until(rows, until)? {
             return Ok(());
@@ -85,6 +118,45 @@ impl EngineState {
         if let Some(fault) = turn_fault(rows) {
             return Err(fault);
         }
+        self.drain_in_threads(rt, rows, threads)
+    }
+
+    /// Does as `drain_by_halves`, in at most so many threads if they pay.
+    fn drain_in_threads<R: Threads + Sync>(
+        &mut self,
+        rt: &R,
+        rows: u32,
+        threads: usize,
+    ) -> Result<(), Fault>
+        requires sound { IsSound self.old }
+        requires accepted { drain_fault rows ≡ None }
+        ensures runs { RunsByQuery (engine_in self.old) rows result (engine_in self.new) }
+        ensures others { LeavesOthers (engine_in self.old) (engine_in self.new) }
+        ensures idle { OnOk result (first_of (engine_in self.new).slots ≡ None) }
+        ensures whole { IsWhole self.old → IsWhole self.new }
+        ensures sound { IsSound self.new }
+    {
+        match self.drain_once_in_threads(rt, rows, threads) {
+            Err(Fault::OutOfMemory) if rows > 1 => self.drain_in_threads(rt, rows / 2, threads),
+            result => result,
+        }
+    }
+
+    /// Does as `drain_once`, in at most so many threads if they pay.
+    fn drain_once_in_threads<R: Threads + Sync>(
+        &mut self,
+        rt: &R,
+        rows: u32,
+        threads: usize,
+    ) -> Result<(), Fault>
+        requires sound { IsSound self.old }
+        requires accepted { drain_fault rows ≡ None }
+        ensures runs { RunsOnce (engine_in self.old) rows result (engine_in self.new) }
+        ensures others { LeavesOthers (engine_in self.old) (engine_in self.new) }
+        ensures idle { OnOk result (first_of (engine_in self.new).slots ≡ None) }
+        ensures whole { IsWhole self.old → IsWhole self.new }
+        ensures sound { IsSound self.new }
+    {
         let until = self.next.saturating_add(self.few_turns());
         if !self.run_until(rows, until)? {
             return Ok(());
@@ -95,7 +167,7 @@ impl EngineState {
 
     /// Runs at most so many turns. First it takes the ready queries, each by itself, in at most so
     /// many threads if they pay. Then it goes turn by turn. Returns whether an operator may still
-    /// take something.
+    /// take something. After it ran out of memory it goes on with half the rows, down to one.
     pub(crate) fn drain_some_by_query<R: Threads + Sync>(
         &mut self,
         rt: &R,
@@ -112,8 +184,7 @@ impl EngineState {
         ensures last { result ≡ Ok true → self.new.next ≡ self.old.next + turns }
         ensures idle { result ≡ Ok false → first_of (engine_in self.new).slots ≡ None }
         ensures fewer { result ≡ Err TooManyLeases → self.new.next < self.old.next + turns }
-        ensures below { result ≡ Err OutOfMemory → HasRunOutBelow rows (self.old.next + turns)
-            (engine_in self.old) (engine_in self.new) }
+        ensures below { result ≡ Err OutOfMemory → self.new.next < self.old.next + turns }
         ensures looks { turns ≡ 0 → IfErr result (λ fault. fault ≡ BadLimit) }
         ensures whole { IsWhole self.old → IsWhole self.new }
         ensures sound { IsSound self.new }
@@ -122,6 +193,69 @@ impl EngineState {
             return Err(fault);
         }
         let until = self.next.saturating_add(turns);
+        self.run_some_by_halves(rt, rows, until, threads)
+    }
+
+    /// Runs turns with numbers below `until`, of at most `rows` rows, and then of half as many each
+    /// time that memory runs out.
+    fn run_some_by_halves<R: Threads + Sync>(
+        &mut self,
+        rt: &R,
+        rows: u32,
+        until: u64,
+        threads: usize,
+    ) -> Result<bool, Fault>
+        requires sound { IsSound self.old }
+        requires accepted { drain_fault rows ≡ None }
+        requires within { self.old.next ≤ until }
+        ensures runs { RunsByQuery (engine_in self.old) rows (as_drained result)
+            (engine_in self.new) }
+        ensures others { LeavesOthers (engine_in self.old) (engine_in self.new) }
+        ensures most { self.new.next ≤ until }
+        ensures more { result ≡ Ok true → HasReady (engine_in self.new) }
+        ensures last { result ≡ Ok true → self.new.next ≡ until }
+        ensures idle { result ≡ Ok false → first_of (engine_in self.new).slots ≡ None }
+        ensures fewer { result ≡ Err TooManyLeases → self.new.next < until }
+        ensures below { result ≡ Err OutOfMemory → self.new.next < until }
+        ensures looks { OnErr result (self.old.next < until) }
+        ensures whole { IsWhole self.old → IsWhole self.new }
+        ensures sound { IsSound self.new }
+    {
+        match self.run_some_once(rt, rows, until, threads) {
+            Err(Fault::OutOfMemory) if rows > 1 => {
+                self.run_some_by_halves(rt, rows / 2, until, threads)
+            }
+            result => result,
+        }
+    }
+
+    /// Runs turns with numbers below `until`: query by query, in at most so many threads if they
+    /// pay, and then turn by turn. It ends as `drain_once` does.
+    fn run_some_once<R: Threads + Sync>(
+        &mut self,
+        rt: &R,
+        rows: u32,
+        until: u64,
+        threads: usize,
+    ) -> Result<bool, Fault>
+        requires sound { IsSound self.old }
+        requires accepted { drain_fault rows ≡ None }
+        requires within { self.old.next ≤ until }
+        ensures runs { RunsOnce (engine_in self.old) rows (as_drained result)
+            (engine_in self.new) }
+        ensures others { LeavesOthers (engine_in self.old) (engine_in self.new) }
+        ensures most { self.new.next ≤ until }
+        ensures more { result ≡ Ok true → HasReady (engine_in self.new) }
+        ensures last { result ≡ Ok true → self.new.next ≡ until }
+        ensures idle { result ≡ Ok false → first_of (engine_in self.new).slots ≡ None }
+        ensures fewer { result ≡ Err TooManyLeases → self.new.next < until }
+        ensures below { result ≡ Err OutOfMemory
+            → RanShortBelow rows until (engine_in self.old) (engine_in self.new) }
+        ensures looks { OnErr result (self.old.next < until) }
+        ensures whole { IsWhole self.old → IsWhole self.new }
+        ensures sound { IsSound self.new }
+    {
+        let turns = until - self.next;
         self.run_by_query(rt, rows as usize, turns, threads)?;
         self.run_until(rows, until)
     }
@@ -347,11 +481,13 @@ impl EngineState {
         ensures empty { IfOk result (λ job. remains_of job.remains ≡ Dropped) }
     {
         let slots = self.query_slots(query)?;
+        let rows = self.rows_from(query, place);
         Ok(Job {
             query,
             remains: Remains::Dropped,
             slots,
-            work: self.work_from(query, place),
+            rows,
+            work: self.work_of(query, rows),
             turns: 0,
             stopped: false,
         })
@@ -359,18 +495,26 @@ impl EngineState {
 
     /// Counts the rows that wait for the windows of a query, a row for each window. The first of
     /// them is at a place of the readers.
-    fn work_from(&self, query: u64, place: usize) -> u64
+    fn rows_from(&self, query: u64, place: usize) -> u64
         requires { MayLookAt (engine_in self.now) query }
     {
-        let mut work: u64 = 0;
+        let mut rows: u64 = 0;
         for place in place..self.readers.len() {
             let reader = &self.readers[place];
             if reader.query != query {
-                return work;
+                return rows;
             }
-            work = work.saturating_add(self.rows_for(reader));
+            rows = rows.saturating_add(self.rows_for(reader));
         }
-        work
+        rows
+    }
+
+    /// Estimates how much work so many rows are for a query, by its last drain.
+    fn work_of(&self, query: u64, rows: u64) -> u64 {
+        match self.registered.get(query as usize) {
+            Some(registration) => registration.pace.work_of(rows),
+            None => rows,
+        }
     }
 
     /// Lets each job have what is left of its query.
@@ -424,8 +568,8 @@ impl EngineState {
         Err(AllocError)
     }
 
-    /// Takes back the query of a job. Returns whether no turn of it took fewer rows since it ran out
-    /// of memory.
+    /// Takes back the query of a job. Returns whether no turn of it took fewer rows as memory ran
+    /// out.
     fn take_home(&mut self, job: Job) -> bool
         requires { (e : PlainEngine) × ((rows : ℕ) × ((rest : List OneJob)
             × AreOut e rows (rest ++ job ∷ []) self.old)) }
@@ -438,6 +582,7 @@ impl EngineState {
             query,
             remains,
             slots,
+            rows: _,
             work: _,
             turns,
             stopped,
@@ -466,6 +611,6 @@ impl EngineState {
 
 /// Returns how many threads pay for the jobs, at most so many.
 fn paying_threads(jobs: &[Job], threads: usize) -> usize {
-    let paying = work_of(jobs) / ROWS_OF_A_THREAD;
+    let paying = rows_of(jobs) / ROWS_OF_A_THREAD;
     threads.min(jobs.len()).min(paying as usize)
 }

@@ -58,7 +58,9 @@ pub(crate) struct Job {
     pub(crate) remains: Remains,
     /// Holds the slots of its operators, as they were before.
     pub(crate) slots: Vec<Slot>,
-    /// Counts the rows that wait for its windows.
+    /// Counts the rows that wait for its windows, a row for each window.
+    pub(crate) rows: u64,
+    /// Estimates the work of its drain.
     pub(crate) work: u64,
     /// Counts the numbers that its turns took.
     pub(crate) turns: u64,
@@ -88,18 +90,26 @@ pub(crate) fn run_job(
     ensures { HasRunJob streams.now quota job.old job.new }
 {
     let registration = &registered[job.query as usize];
-    let ran = run_remains(&mut job.remains, streams, registration, alloc, quota);
+    let ran = run_remains(
+        &mut job.remains,
+        streams,
+        registration,
+        alloc,
+        quota,
+        job.rows,
+    );
     job.turns = ran.turns;
     job.stopped = ran.stopped;
 }
 
-/// Drains the running query.
+/// Drains the running query, for which so many rows wait.
 fn run_remains(
     remains: &mut Remains,
     streams: &Streams,
     registration: &Registration,
     alloc: Global,
     quota: Quota,
+    rows: u64,
 ) -> Ran
     requires quota { IsQuota quota }
     requires may { (p : PlainQuery) × ((remains_of remains.old ≡ Running p)
@@ -109,7 +119,17 @@ fn run_remains(
         × HasRunAlone streams.now quota p result p2) }
 {
     match remains {
-        Remains::Running(query) => run_alone(query, streams, registration, alloc, quota),
+        Remains::Running(query) => {
+            let before = query.waiting();
+            let ran = run_alone(query, streams, registration, alloc, quota);
+            let answers = query.waiting().saturating_sub(before) as u64;
+            if ran.turns < quota.turns {
+                registration
+                    .pace
+                    .note(rows, ran.turns.saturating_add(answers));
+            }
+            ran
+        },
         _ => unreachable!(),
     }
 }

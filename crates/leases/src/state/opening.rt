@@ -11,6 +11,7 @@ ghost use Rattle.leases.specs.Sound.{IsSound};
 ghost use Rattle.leases.specs.Views.{query_of};
 
 use crate::opening::Opening;
+use crate::pace::Pace;
 use crate::registered::{Registration, SourcePlace};
 use crate::remains::Remains;
 use crate::state::EngineState;
@@ -110,6 +111,7 @@ fn bare_copy(alloc: Global, query: &Registration) -> Result<Registration, AllocE
         taken: query.taken,
         ever_taken: query.ever_taken,
         is_dropped: query.is_dropped,
+        pace: Pace::new(),
     })
 }
 

@@ -28,6 +28,7 @@ ghost use Rattle.leases.specs.Shown.{engine_in, world_in};
 ghost use Rattle.leases.specs.Sound.{IsSound};
 ghost use Rattle.leases.specs.Views.{place_of, query_of};
 
+use crate::pace::Pace;
 use crate::reader::WindowReader;
 use crate::registered::{Registration, SourcePlace};
 use crate::remains::Remains;
@@ -285,6 +286,7 @@ fn registration(
         taken: 0,
         ever_taken: 0,
         is_dropped: false,
+        pace: Pace::new(),
     })
 }
 

@@ -136,10 +136,19 @@ fn cut_of(jobs: &[Job], fewer: usize, all: usize) -> usize
 }
 
 /// Adds up the work of jobs.
-pub(crate) fn work_of(jobs: &[Job]) -> u64 {
+fn work_of(jobs: &[Job]) -> u64 {
     let mut work: u64 = 0;
     for job in jobs.iter() {
         work = work.saturating_add(job.work);
     }
     work
+}
+
+/// Adds up the rows that wait for jobs.
+pub(crate) fn rows_of(jobs: &[Job]) -> u64 {
+    let mut rows: u64 = 0;
+    for job in jobs.iter() {
+        rows = rows.saturating_add(job.rows);
+    }
+    rows
 }

@@ -1,12 +1,16 @@
-use Rattle.std.proofs.Common.{◌∙◌, ap, subst, Ok, Err}
+use Rattle.std.proofs.Common.{◌∙◌, ap, rules, subst, Ok, Err}
 use Rattle.hub.specs.Steps.{Hands}
 use Rattle.served.proofs.Requests.{full_of}
 use Rattle.served.proofs.drains.run_turns.Goals as goal
+use Rattle.served.proofs.drains.run_turns.Goals.{in-None, in-Some+in-Ok-Idle}
 
-pub returns-in-Ok-Idle : goal.returns-in-Ok-Idle
-returns-in-Ok-Idle g c =
-    let h = c.lease.ensures in
-    (h.0, h.1, subst (λ r. Hands h.0 c.args.rows r h.1) (c.in-Ok-Idle.is ∙ ap Ok c.in-Ok-Idle.field-0-is) h.2)
+pub returns : goal.returns
+returns g c = elim c.match-next.branch [
+  | in-None w ↦ search rules
+  | in-Some+in-Ok-Idle w ↦
+      let h = w.lease.ensures in
+      (h.0, h.1, subst (λ r. Hands h.0 c.args.rows r h.1) (w.in-Ok-Idle.is ∙ ap Ok w.in-Ok-Idle.field-0-is) h.2)
+]
 
 pub returns-in-Err-TooManyLeases : goal.returns-in-Err-TooManyLeases
 returns-in-Err-TooManyLeases g c =

@@ -4,7 +4,6 @@ use Rattle.reference.specs.declared.fault.Fault.TheVariants.{BadLimit}
 use Rattle.laws_engine.proofs.IdleLemmas.{idle_waits}
 use Rattle.laws_engine.proofs.PromiseLemmas.{keeps_its_promises}
 use Rattle.leases.proofs.ByQueryLemmas.{by_query_gives, by_query_machine, none_by_query, some_by_query}
-use Rattle.leases.specs.ByQuery.{HasRunOutBelow}
 use Rattle.leases.proofs.NumberLemmas.{spent}
 use Rattle.leases.specs.Drains.{as_drained}
 use Rattle.leases.specs.Shown.{engine_in}
@@ -36,7 +35,7 @@ returns-clause-promises g c = keeps_its_promises _ c.drain_some_by_query.ensures
 
 pub returns-clause-below : goal.returns-clause-below
 returns-clause-below g c = λ out.
-    subst (λ s. HasRunOutBelow c.args.rows (s.next + c.args.turns) (engine_in s) (engine_in c.drain_some_by_query.new.self)) c.self.view_is (c.drain_some_by_query.ensures.below out)
+    subst (λ s. c.drain_some_by_query.new.self.next < s.next + c.args.turns) c.self.view_is (c.drain_some_by_query.ensures.below out)
 
 pub returns-clause-looks : goal.returns-clause-looks
 returns-clause-looks g c = λ none.

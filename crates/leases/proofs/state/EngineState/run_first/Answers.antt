@@ -1,5 +1,5 @@
 -- Where memory runs out in a turn, nothing was passed before it.
-use Rattle.std.proofs.Common.{◌≡◌, ◌∙◌, sym, subst}
+use Rattle.std.proofs.Common.{◌≡◌, ◌∙◌, subst}
 use Rattle.leases.specs.Drains.{RanOutBelow}
 use Rattle.leases.specs.Shown.{engine_in}
 use Rattle.leases.specs.declared.state.EngineState.{EngineState}

@@ -1,5 +1,5 @@
 -- One more job has run.
-use Rattle.std.proofs.Common.{refl, slice_index_or, arith}
+use Rattle.std.proofs.Common.{arith}
 use Rattle.leases.proofs.SharesLemmas.{all_have_run, may_next, none_has_run, one_has_run}
 use Rattle.leases.proofs.state.shares.run_all.Goals as goal
 

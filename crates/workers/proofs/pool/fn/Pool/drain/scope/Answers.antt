@@ -1,14 +1,23 @@
-use denote.Param.Send.{IsSync, sendable, param_send}
+use denote.Param.Send.{IsSend, IsSync, sendable, param_send, view_send}
+use denote.Param.SendFields.{declared_send}
 use Rattle.std.proofs.Crossing.{crosses, send}
 use Rattle.std.specs.contracts.option.Option as option
 use Rattle.std.specs.contracts.sync.Mutex as mutex
 use Rattle.hub.proofs.SendLemmas.{hub_sync}
+use Rattle.reference.specs.contracts.fault.Fault as fault
 use Rattle.workers.specs.contracts.want.Want as want
+use Rattle.workers.specs.contracts.want.Want.TheInside as inside
 use Rattle.workers.proofs.pool.fn.Pool.drain.scope.Goals as goal
 use Rattle.workers.proofs.pool.fn.Pool.drain.scope.Lts as lts
 
+fault_send : IsSend fault.the_row
+fault_send = search (sendable, crosses) depth 60 fits 400000
+
+want_send : IsSend want.the_row
+want_send = view_send inside.the_row _ _ want.the_view _ (declared_send inside.the_type (fault_send, tt))
+
 met_sync : IsSync (mutex.the_row (option.the_row want.the_row))
-met_sync = search (sendable, crosses) depth 20
+met_sync = search (sendable, crosses, want_send) depth 20
 
 pub spawn-requires-send-F : goal.spawn-requires-send-F
 spawn-requires-send-F c d κs lives =

@@ -1,0 +1,40 @@
+-- A few turns; then query by query; then turn by turn.
+use Rattle.std.proofs.Common.{◌∙◌, Err, inl, refl}
+use Rattle.reference.specs.declared.fault.Fault.TheVariants.{OutOfMemory}
+use Rattle.leases.specs.ByQuery.{RunsOnce}
+use Rattle.leases.specs.Shown.{engine_in}
+use Rattle.leases.proofs.ByQueryLemmas.{done_none, done_on, drained, few_done, less_since, less_whole, stays_whole}
+use Rattle.leases.proofs.DrainLemmas.{same_err}
+use Rattle.leases.proofs.state.EngineState.drain_once.Goals as goal
+
+pub returns-in_err-run_until-clause-runs : goal.returns-in_err-run_until-clause-runs
+returns-in_err-run_until-clause-runs c =
+    same_err c.from_residual.result c.in_err-run_until.field-0.0 (λ r. RunsOnce (engine_in c.args.self.now) c.args.rows r (engine_in c.run_until.new.self)) c.from_residual.ensures.1
+    (drained (engine_in c.args.self.now) (engine_in c.args.self.now) (engine_in c.run_until.new.self) c.args.rows (Err c.in_err-run_until.field-0.0) c.requires.sound.good c.requires.accepted
+    (done_none c.args.rows (engine_in c.args.self.now) (engine_in c.args.self.now) refl) c.in_err-run_until.ensures.runs)
+
+pub returns-then-not-branch-clause-runs : goal.returns-then-not-branch-clause-runs
+returns-then-not-branch-clause-runs c =
+    (few_done (engine_in c.args.self.now) (engine_in c.run_until.new.self) c.args.rows c.requires.sound.good c.in_ok-run_until.ensures.runs)
+
+pub returns-in_err-run_each-clause-runs : goal.returns-in_err-run_each-clause-runs
+returns-in_err-run_each-clause-runs c =
+    let few = few_done (engine_in c.args.self.now) (engine_in c.run_until.new.self) c.args.rows c.requires.sound.good c.in_ok-run_until.ensures.runs in
+    same_err c.from_residual-in_err-run_each.result OutOfMemory (λ r. RunsOnce (engine_in c.args.self.now) c.args.rows r (engine_in c.run_each.new.self)) c.from_residual-in_err-run_each.ensures.1 (inl (less_since c.args.rows (engine_in c.args.self.now) (engine_in c.run_until.new.self) (engine_in c.run_each.new.self) few c.in_err-run_each.ensures.err))
+
+pub returns-clause-runs : goal.returns-clause-runs
+returns-clause-runs c =
+    let few = few_done (engine_in c.args.self.now) (engine_in c.run_until.new.self) c.args.rows c.requires.sound.good c.in_ok-run_until.ensures.runs in
+    drained (engine_in c.args.self.now) (engine_in c.run_each.new.self) (engine_in c.run_turns.new.self) c.args.rows c.run_turns.result c.run_each.ensures.sound.good c.requires.accepted
+    (done_on c.args.rows (engine_in c.args.self.now) (engine_in c.run_until.new.self) (engine_in c.run_each.new.self) few c.in_ok-run_each.ensures.ok) c.run_turns.ensures.runs
+
+pub returns-clause-whole : goal.returns-clause-whole
+returns-clause-whole c = λ whole.
+    let few = few_done (engine_in c.args.self.now) (engine_in c.run_until.new.self) c.args.rows c.requires.sound.good c.in_ok-run_until.ensures.runs in
+    c.run_turns.ensures.whole
+    (stays_whole c.args.rows (engine_in c.args.self.now) (engine_in c.run_each.new.self) c.requires.sound.good whole (c.run_each.ensures.others ∙ c.in_ok-run_until.ensures.others)
+    (done_on c.args.rows (engine_in c.args.self.now) (engine_in c.run_until.new.self) (engine_in c.run_each.new.self) few c.in_ok-run_each.ensures.ok))
+
+pub returns-in_err-run_each-clause-whole : goal.returns-in_err-run_each-clause-whole
+returns-in_err-run_each-clause-whole c = λ whole.
+    less_whole c.args.rows (engine_in c.run_until.new.self) (engine_in c.run_each.new.self) c.in_ok-run_until.ensures.sound.good (c.in_ok-run_until.ensures.whole whole) c.run_each.ensures.others c.in_err-run_each.ensures.err

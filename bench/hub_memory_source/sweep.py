@@ -70,9 +70,7 @@ def check(program: str, words: list[str], requests: list[Json], refuse: str, num
 def compare_drain(program: str, requests: list[Json], replies: list[Json], place: int) -> str:
     """Compares a run in which a drain ran out of memory.
 
-    It keeps what it finished, and may have broken queries: their answers end early. Query by query
-    it may break several, as docs/faults.md says. One growth is refused, so most runs break one or
-    none; the outcome says how many.
+    It keeps what it finished and breaks no query, as docs/faults.md says.
     """
     wanted = plain(program, requests)
     assert replies[:place] == wanted[:place], (
@@ -81,7 +79,8 @@ def compare_drain(program: str, requests: list[Json], replies: list[Json], place
     for at, (request, reply, want) in enumerate(zip(requests, replies, wanted, strict=True)):
         if at != place:
             run.follow(request, reply, want)
-    return f"drain that broke {len(run.broken)}" if run.broken else "drain"
+    assert not run.broken, f"a drain broke {len(run.broken)} queries"
+    return "drain"
 
 
 # ---- cqld, by one connection

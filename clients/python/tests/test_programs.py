@@ -22,7 +22,11 @@ SETUP = (
 
 DONE = '{"ok":true}\n'
 
+EMPTY_APPEND = '{"op":"append","stream":"S","rows":[]}\n'
+
 CALLS = 100_100  # more than a history of 100,000 calls has room for
+
+MANY_CALLS = [SETUP] + [EMPTY_APPEND * 100] * (CALLS // 100)
 
 LISTEN = "0A"  # the state of a socket in /proc/net/tcp
 LOOPBACK = "0100007F"  # 127.0.0.1 there
@@ -137,6 +141,45 @@ def other_end(server: int, client: socket.socket) -> socket.socket:
     finally:
         os.close(process)
     raise AssertionError("the server has no such connection")
+
+
+def most_memory(process: int) -> int:
+    """Returns the most memory that a running process has had, in KiB."""
+    status = Path(f"/proc/{process}/status").read_text()
+    return next(
+        int(line.split()[1]) for line in status.splitlines() if line.startswith("VmHWM")
+    )
+
+
+def most_memory_of_a_pool(parts: list[str], values: int) -> int:
+    """Returns the most memory that a pool had which forgets after so many values, in KiB."""
+    words = ("--workers=1", f"--forget={values}")
+    with subprocess.Popen(
+        [find_program("cqlrun"), *words],
+        stdin=subprocess.PIPE,
+        stdout=subprocess.PIPE,
+        text=True,
+    ) as pool:
+        assert pool.stdin is not None and pool.stdout is not None
+        for part in parts:
+            pool.stdin.write(part)
+            pool.stdin.flush()
+            for _ in range(part.count("\n")):
+                pool.stdout.readline()
+        most = most_memory(pool.pid)
+        pool.stdin.close()
+    return most
+
+
+def most_memory_of_a_server(parts: list[str], *words: str) -> int:
+    """Returns the most memory that a server had with these words, in KiB."""
+    with listening(*words) as (server, port):
+        with connected(port) as client, client.makefile("rb") as replies:
+            for part in parts:
+                client.sendall(part.encode())
+                for _ in range(part.count("\n")):
+                    replies.readline()
+        return most_memory(server.pid)
 
 
 class Programs(unittest.TestCase):
@@ -254,13 +297,13 @@ class Programs(unittest.TestCase):
             self.assertEqual(ran.stdout, replies(3) + DONE + status)
 
     def test_a_pool_keeps_more_than_100000_calls(self) -> None:
-        lines = SETUP + '{"op":"append","stream":"S","rows":[]}\n' * CALLS
+        lines = SETUP + EMPTY_APPEND * CALLS
         ran = said("cqlrun", "--workers=1", lines=lines)
         self.assertEqual((ran.returncode, ran.stderr), (0, ""))
         self.assertEqual(ran.stdout.count(DONE), CALLS + 2)
 
     def test_a_server_that_never_forgets_keeps_more_than_100000_calls(self) -> None:
-        part = b'{"op":"append","stream":"S","rows":[]}\n' * 100
+        part = EMPTY_APPEND.encode() * 100
         with listening("--forget=0", "--serve=1") as (server, port):
             with connected(port) as client, client.makefile("rb") as replies:
                 client.sendall(SETUP.encode())
@@ -270,6 +313,18 @@ class Programs(unittest.TestCase):
                     found.update(replies.readline() for _ in range(100))
                 self.assertEqual(found, {DONE.encode()})
             self.assertEqual(server.wait(PATIENCE), 0)
+
+    def test_a_server_forgets_after_as_many_values_as_it_is_told(self) -> None:
+        # A call without rows counts as 16 values. So all calls together are fewer than a server
+        # keeps that is told nothing.
+        few = most_memory_of_a_server(MANY_CALLS, "--forget=16000")
+        many = most_memory_of_a_server(MANY_CALLS)
+        self.assertGreater(many, few + CALLS * 100 // 1024)
+
+    def test_a_pool_forgets_after_as_many_values_as_it_is_told(self) -> None:
+        few = most_memory_of_a_pool(MANY_CALLS, 16_000)
+        many = most_memory_of_a_pool(MANY_CALLS, 16 * 2 * CALLS)
+        self.assertGreater(many, few + CALLS * 100 // 1024)
 
     def test_forgetting_wants_a_pool(self) -> None:
         ran = said("cqlrun", "--forget=1", lines=script(1))
@@ -327,6 +382,24 @@ class Programs(unittest.TestCase):
     def test_a_server_listens_only_on_loopback(self) -> None:
         with listening() as (_, port):
             self.assertEqual(listeners(port), [("tcp", LOOPBACK)])
+
+    def test_a_blank_line_holds_no_work_back(self) -> None:
+        rows = (
+            '{"op":"append","stream":"S","rows":[[0,5]]}\n'
+            '{"op":"heartbeat","stream":"S","at":0}\n'
+        )
+        with listening("--serve=2", clients=2) as (_, port):
+            with connected(port) as quiet, connected(port) as other:
+                quiet.sendall((SETUP + rows + "\n").encode())
+                with quiet.makefile("rb") as lines, other.makefile("rb") as taken:
+                    said = [lines.readline() for _ in range(4)]
+                    self.assertEqual(said, [DONE.encode()] * 4)
+
+                    def is_there() -> bool:
+                        other.sendall(b'{"op":"take","query":"q","limit":1}\n')
+                        return b"[0,5]" in taken.readline()
+
+                    wait_until(is_there)  # nobody asks for a drain
 
     def test_workers_outlive_the_first_connection(self) -> None:
         setup = (

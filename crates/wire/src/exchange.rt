@@ -31,7 +31,7 @@ pub trait Responder<T> {
     ghost notes: { Self → Result Call WireFault → Answer → Bool };
 
     /// Answers what was read of a line. Returns the reply, and whether the request is noted.
-    /// `waits` says that no further line was read ahead, so that the source is read next.
+    /// `waits` says that no further request was read ahead whole, so that the source is read next.
     fn respond(&self, state: &mut T, read: Result<Request, WireFault>, waits: bool) -> (Reply, bool)
         ensures replies { (defined : Result Call WireFault) → Reads defined read
             → replies self.now state.old defined (answer_of result.0) state.new }
@@ -147,7 +147,7 @@ pub fn answer_requests<S: Source, K: Sink, T, A: Responder<T>>(
         let Some(read) = next else {
             return Ok(noted);
         };
-        let waits = !lines.holds_line();
+        let waits = !lines.holds_request();
         let is_noted = add_answer(sink, &mut page, responder, state, read, waits);
         if !page.is_sound {
             return Err(ScriptFault::Write);

@@ -8,6 +8,7 @@ ghost use Rattle.wire.specs.Devices.{Rises};
 ghost use Rattle.wire.specs.Lines.{EachOther, NoFeed, Keeps, longest_line, BeginsWithLine};
 
 use crate::device::{DeviceFailed, Source};
+use crate::read::is_blank;
 use std::alloc::{AllocError, Global};
 
 const CHUNK: usize = 65_536;
@@ -60,6 +61,18 @@ fn feed_at(bytes: &[u8]) -> Option<usize>
         }
     }
     None
+}
+
+/// Returns whether the bytes have a line with its line feed that is not blank.
+fn has_request(bytes: &[u8]) -> bool {
+    let mut rest = bytes;
+    while let Some(at) = feed_at(rest) {
+        if !is_blank(&rest[..at]) {
+            return true;
+        }
+        rest = &rest[at + 1..];
+    }
+    false
 }
 
 /// Adds a piece to what is kept of a line, and returns whether all of the line is kept.
@@ -138,9 +151,9 @@ impl Lines {
         }
     }
 
-    /// Returns whether the bytes that are read ahead have a line feed.
-    pub(crate) fn holds_line(&self) -> bool {
-        feed_at(&self.chunk[self.start..self.end]).is_some()
+    /// Returns whether the bytes that are read ahead have a whole line that is not blank.
+    pub(crate) fn holds_request(&self) -> bool {
+        has_request(&self.chunk[self.start..self.end])
     }
 
     /// Takes the next line out of the bytes that are read ahead, if they have its line feed.

@@ -18,7 +18,8 @@ use crate::scan::usual_request;
 use serde_json::Value;
 use std::alloc::Global;
 
-fn is_blank(line: &[u8]) -> bool
+/// Returns whether the line has spaces, tabs and carriage returns alone.
+pub(crate) fn is_blank(line: &[u8]) -> bool
     ensures { result ≡ list_all is_blank_byte line.now }
 {
     line.iter()

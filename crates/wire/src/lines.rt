@@ -70,7 +70,7 @@ fn has_request(bytes: &[u8]) -> bool {
         if !is_blank(&rest[..at]) {
             return true;
         }
-        rest = &rest[at + 1..];
+        rest = &rest[at..][1..];
     }
     false
 }

@@ -348,13 +348,15 @@ fn memory(process: &str, key: &str) -> Outcome<u64> {
 /// The peak of a server's memory after each step of so many rows. It ends early, and says so, where
 /// the peak passes `MOST` KiB or a request is refused.
 fn curve(words: &[String]) -> Outcome<()> {
-    let [place, process, rows, step, steps, most] = words else {
+    let [place, process, rows, step, steps, most, rest @ ..] = words else {
         return Err("bad words".into());
     };
     let (rows, step): (usize, usize) = (rows.parse()?, step.parse()?);
     let most: u64 = most.parse()?;
     let mut link = Link::open(place, true)?;
-    link.declare(0, &filter(0))?;
+    // only the filter's answers are counted
+    let is_counted = rest.is_empty();
+    link.declare(0, &rest.first().cloned().unwrap_or_else(|| filter(0)))?;
     let mut cycles = Cycles::new(0, rows);
     let (mut done, mut left) = (0, 0);
     for number in 1..=steps.parse::<usize>()? {
@@ -364,12 +366,12 @@ fn curve(words: &[String]) -> Outcome<()> {
                 let cycle = cycles.next().ok_or("no cycle")?;
                 burst.extend_from_slice(&cycle.text);
                 lines += cycle.ends.len();
-                left += cycle.passing;
+                left += if is_counted { cycle.passing } else { 0 };
                 done += rows;
             }
             link.output.write_all(&burst)?;
             match link.replies(lines) {
-                Ok(answers) => left -= answers,
+                Ok(answers) => left -= if is_counted { answers } else { 0 },
                 Err(error) => {
                     eprintln!("stopped {done} {error}");
                     return Ok(());

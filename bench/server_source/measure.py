@@ -22,6 +22,10 @@ QUERIES = {
     "groups": "Select Istream(k, Count(*), Sum(v)) From S [Range 100] Group By k",
     "join": "Select Istream(x.v, y.v) From S [Range 10] x, S [Now] y Where x.k = y.k",
 }
+LONG_QUERIES = {
+    "range": "Select Istream(k, v) From S0 [Range 1000]",
+    "groups": "Select Istream(k, Count(*), Sum(v)) From S0 [Range 1000] Group By k",
+}
 MANY_PAIRS = "Select Istream(x.v, y.v) From S [Now] x, S [Now] y Where x.k = y.k"
 
 
@@ -189,21 +193,23 @@ class Bench:
         step = self.sizes.step
         print(f"\nPeak of `cqld` in MiB after each {step:,} rows, by rows of an append, without a "
               "forget:\n")
-        print(head("Rows", *map(str, range(1, 11))))
-        for rows in ROWS:
+        print(head("Query", "Rows", *map(str, range(1, 11))))
+        runs = [("filter", rows) for rows in ROWS] + [(name, 256) for name in LONG_QUERIES]
+        for name, rows in runs:
+            texts = [] if name == "filter" else [LONG_QUERIES[name]]
             with self.server(1, 1) as server:
                 said = server.play(self.load, "curve", "WHERE", server.process.pid, rows, step, 10,
-                                   MOST_KIB)
+                                   MOST_KIB, *texts)
             peaks = said.numbers("peak")
-            print(row(rows, *(f"{peak / 1024:.1f}" for peak in peaks), *[""] * (10 - len(peaks))),
-                  flush=True)
+            print(row(name, rows, *(f"{peak / 1024:.1f}" for peak in peaks),
+                      *[""] * (10 - len(peaks))), flush=True)
             stopped = said.text("stopped")
             if stopped:
                 at, _, why = stopped.partition(" ")
                 print(f"\nStopped after {int(at):,} rows: {why}\n", flush=True)
             first, last = (peaks[0], peaks[-1]) if peaks else (1.0, float("inf"))
             ratio = float("inf") if stopped else last / first
-            self.add(Goal(f"peak after ten times {step:,} rows, appends of {rows}, KiB",
+            self.add(Goal(f"peak after ten times {step:,} rows, {name}, appends of {rows}, KiB",
                                    f"{last:,.0f}", f"{first:,.0f} after the first", ratio, 1.2,
                                    False))
         with self.server(1, 1) as server:

@@ -12,7 +12,7 @@ use Rattle.windows.proofs.FlatLemmas.{IsFlat-none, IsFlat-push, cut_rows-drop, c
 use Rattle.op_queue.specs.Entries.{Entry, RowAt, TickAt}
 use Rattle.op_queue.specs.declared.item.Item.TheVariants.{Tick}
 use Rattle.windows.specs.Slide.{out}
-use Rattle.windows.specs.Range.{with_sign}
+use Rattle.windows.specs.Instants.{with_sign}
 use Rattle.windows.proofs.LeavingLemmas.{cut_rows-first, cut_rows-take, rows_at, rows_at-more}
 
 -- the rows between two places of others

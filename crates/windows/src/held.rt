@@ -4,7 +4,7 @@ ghost use Rattle.std.specs.Prelude.{IfOk, OnOk, OnErr, nat_lt};
 ghost use Rattle.std.specs.List.{filter};
 ghost use Rattle.std.specs.List.Sorted.{IsNonDecreasingBy};
 ghost use Rattle.column.specs.Rows.{IsTable, width};
-ghost use Rattle.windows.specs.Range.{held_at, with_sign};
+ghost use Rattle.windows.specs.Instants.{held_at, with_sign};
 
 use crate::flat_rows::FlatRows;
 use crate::row_table::RowTable;

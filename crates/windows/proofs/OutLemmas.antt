@@ -34,6 +34,23 @@ pub stands_after : (first n : ℕ) (s : WindowState) (held : List Element) → S
 stands_after first n (Instants s) held st = subst (instants.IsAfter n) (sym st.same) (plain_up_to n held st.up_to)
 stands_after first n (Latest s) held st = tt
 
+-- what rows make it put out are rows of their instant, and a tick's rows come before the tick
+none_out : rows_in [] ≡ []
+unfolding rows_in
+none_out = refl
+
+pub out_rows : (s : WindowState) (t : ℕ) (b : List (Bool × Row)) → out (Rows t b) (near s (Rows t b)) ≡ map (RowAt t) (rows_in (out (Rows t b) (near s (Rows t b))))
+out_rows (Instants s) t b = here (at_once s.reach)
+  where
+    here : (o : Bool) → cond o (map (RowAt t) b) [] ≡ map (RowAt t) (rows_in (cond o (map (RowAt t) b) []))
+    here true = ap (map (RowAt t)) (sym (rows_in-batch t b))
+    here false = ap (map (RowAt t)) (sym none_out)
+out_rows (Latest s) t b = ap (map (RowAt t)) (sym (rows_in-batch t (latest.interleaved b (latest.near s (Rows t b)))))
+
+pub out_tick : (s : WindowState) (t : ℕ) → out (Tick t) (near s (Tick t)) ≡ map (RowAt t) (rows_in (out (Tick t) (near s (Tick t)))) ++ TickAt t ∷ []
+out_tick (Instants s) t = ap (λ xs. map (RowAt t) xs ++ TickAt t ∷ []) (sym (rows_of_tick t (signed (instants.near s (Tick t)))))
+out_tick (Latest s) t = ap (λ xs. map (RowAt t) xs ++ TickAt t ∷ []) (sym (rows_of_tick t []))
+
 -- ---- its rows
 module _ (P : Row → Type 0) where
   abbrev PSigned : Bool × Row → Type 0
@@ -58,16 +75,12 @@ module _ (P : Row → Type 0) where
       (All-map PSigned leaving leave (part_all (is_past s.reach t) (take s.shown s.held) (All-take PHeld s.shown s.held all)))
       (All-map PSigned entering enter (part_all (λ x. not (is_past s.reach t x)) (drop s.shown s.held) (All-drop PHeld s.shown s.held all)))
 
-  none_in : rows_in [] ≡ []
-  unfolding rows_in
-  none_in = refl
-
   instants_all : (first n : ℕ) (s : InstantState) (held : List Element) (i : Item) → InstantsStand first n s held → All P (rows_in_order held) → All PSigned (item_rows i) → All PSigned (rows_in (instants.out i (instants.near s i)))
   instants_all first n s held (Rows t b) st rows come = here (at_once s.reach)
     where
       here : (o : Bool) → All PSigned (rows_in (cond o (map (RowAt t) b) []))
       here true = subst (All PSigned) (sym (rows_in-batch t b)) come
-      here false = subst (All PSigned) (sym none_in) (All-nil PSigned)
+      here false = subst (All PSigned) (sym none_out) (All-nil PSigned)
   instants_all first n s held (Tick t) st rows come = here (moves s.reach t)
     where
       all : All PHeld s.held
@@ -182,7 +195,7 @@ instants_few first n s held (Rows t b) st = here (at_once s.reach)
 
     here : (o : Bool) → Few (rows_in_order (take s.shown held)) (cond o (map (RowAt t) b) []) (length held + length b)
     here true = omega (arith, shown, up_most b, ap (up (λ r. 1)) (rows_in-batch t b))
-    here false = omega (arith, shown, up_none, ap (up (λ r. 1)) (none_in (λ r. ⊤)))
+    here false = omega (arith, shown, up_none, ap (up (λ r. 1)) none_out)
 instants_few first n s held (Tick t) st = here (moves s.reach t)
   where
     shown : length (rows_in_order (take s.shown held)) ≡ s.shown

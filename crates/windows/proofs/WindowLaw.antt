@@ -1,7 +1,8 @@
 -- The laws of a window, whatever its kind.
 use Rattle.std.proofs.Common.{◌≡◌, ℕ, ◌+◌, ◌-◌, ◌<◌, ◌≤◌, Bool, true, false, cond, not, List, [], ◌∷◌, ◌++◌, filter, take, refl, ap, ap₂, sym, ◌∙◌, subst, subst₂, arith}
 use Rattle.values.specs.Row.{Row}
-use Rattle.values.specs.Window.{Element, LastRows, shows}
+use Rattle.values.specs.Window.{Element, LastRows, Window, shows}
+use Rattle.op_queue.specs.Items.{item_instant}
 use Rattle.op_queue.specs.Paths.{rows_in}
 use Rattle.op_queue.specs.declared.item.Item.{Item}
 use Rattle.op_queue.specs.declared.item.Item.TheVariants.{Rows, Tick}
@@ -11,7 +12,8 @@ use Rattle.windows.specs.Latest as latest
 use Rattle.windows.specs.Latest.{LatestState, held_in}
 use Rattle.windows.specs.Laws.{AreShown, Each, InstantsStand, IsPart, IsRising, LatestStands, PassesTicks, Stands, TakesRows, TakesTick, WindowRows, WindowTick, coming, rows_in_order, shown_by, shown_of}
 use Rattle.windows.specs.Reach as reach
-use Rattle.windows.specs.Windows.{Begins, IsEmpty, IsNext, Stays, WindowState, near, out, width_of, window_of}
+use Rattle.windows.specs.Widths.{IsItemWide}
+use Rattle.windows.specs.Windows.{Begins, IsAfter, IsEmpty, IsNext, MayTake, Stays, WindowState, near, out, width_of, window_of}
 use Rattle.windows.specs.declared.window.Holding.TheVariants.{Instants, Latest}
 use Rattle.windows.proofs.InstantsLaw.{held_after, instant_rows, instant_tick}
 use Rattle.windows.proofs.LatestLaw.{latest_rows, latest_tick}
@@ -101,3 +103,17 @@ begins_empty first (Latest s) h = record { parts = λ k. h k; rising = tt; up_to
 pub shows_none : (s : WindowState) → IsEmpty s → [] ≡ shown_by s []
 shows_none (Instants s) h = sym (ap (λ n. rows_in_order (take n [])) h.1)
 shows_none (Latest s) h = refl
+
+-- and so it may take an item of any instant
+none_held : (t : ℕ) → instants.IsAfter t []
+none_held t i d lt = absurd (omega (arith, lt))
+
+none_after : (t : ℕ) (s : WindowState) → IsEmpty s → IsAfter t s
+none_after t (Instants s) h = subst (instants.IsAfter t) (sym h.0) (none_held t)
+none_after t (Latest s) h = tt
+
+pub begins_after : (told : Window) (w t : ℕ) (s : WindowState) → Begins told w s → IsAfter t s
+begins_after told w t s b = none_after t s b.empty
+
+pub begins_take : (told : Window) (w : ℕ) (s : WindowState) (i : Item) → Begins told w s → IsItemWide w i → MayTake s i
+begins_take told w s i b wide = record { after = begins_after told w (item_instant i) s b; wide = subst (λ n. IsItemWide n i) (sym b.wide) wide }

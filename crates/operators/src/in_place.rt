@@ -10,7 +10,7 @@ ghost use Rattle.operators.specs.InPlace.{MayQueue, MayTake, outs_from};
 ghost use Rattle.operators.specs.Runs.{StopsAt};
 ghost use Rattle.operators.specs.declared.states.State.TheVariants.{Groups};
 ghost use Rattle.operators.specs.States.{FitsState, near_of};
-ghost use Rattle.windows.specs.Windows as windows;
+ghost use Rattle.windows.specs.Windows as window_turns;
 
 use crate::inboxes::{Inbox, with_queue};
 use crate::runs::untaken;
@@ -153,15 +153,16 @@ fn run_window(
     item: Item,
     queue: &mut Queue,
 ) -> Result<(), AllocError>
-    requires may { windows.MayTake window.old item }
+    requires may { window_turns.MayTake window.old item }
     requires forward { IsForward (queue.old.entries
-        ++ windows.out item (windows.near window.old item)) }
-    ensures next { OnOk result (windows.IsNext window.old item window.new) }
+        ++ window_turns.out item (window_turns.near window.old item)) }
+    ensures next { OnOk result (window_turns.IsNext window.old item window.new) }
     ensures gained { OnOk result
-        (HasGained (windows.out item (windows.near window.old item)) queue.old queue.new) }
+        (HasGained (window_turns.out item (window_turns.near window.old item))
+        queue.old queue.new) }
     ensures err { OnErr result (window.new ≡ window.old) }
     ensures grown { OnErr result (HasGrown queue.old queue.new) }
-    ensures fits { FitsWindow item (nears.Window (windows.near window.old item)) }
+    ensures fits { FitsWindow item (nears.Window (window_turns.near window.old item)) }
 {
     window.run(alloc, item, queue)
 }

@@ -19,8 +19,8 @@ put_held-requires-clause-forward c =
     let P : List Row → Type 0 = λ rows. IsForward (c.args.queue.now.entries ++ map (RowAt c.args.at) (map entering rows)) in
     subst P (sym shown) (subst (λ (x : InstantState). P (near_at x c.args.at).enter) (sym c.self.view_is) c.requires.forward)
 
-pub returns-then-clause-gained : goal.returns-then-clause-gained
-returns-then-clause-gained c =
+pub returns-then-middle-len-clause-gained : goal.returns-then-middle-len-clause-gained
+returns-then-middle-len-clause-gained c =
     let s : InstantState = record { reach = c.self.inside.reach; width = c.self.inside.held.width; held = c.self.inside.held.held; shown = c.self.inside.shown } in
     let older : c.args.older ≡ past_count s c.args.at = subst (λ (x : InstantState). c.args.older ≡ past_count x c.args.at) (sym c.self.view_is) c.requires.older in
     let middle : c.max-middle.result ≡ max c.args.older s.shown = omega (arith, c.max-middle.ensures) in
@@ -35,6 +35,6 @@ returns-clause-gained c =
     let s : InstantState = record { reach = c.self.inside.reach; width = c.self.inside.held.width; held = c.self.inside.held.held; shown = c.self.inside.shown } in
     let older : c.args.older ≡ past_count s c.args.at = subst (λ (x : InstantState). c.args.older ≡ past_count x c.args.at) (sym c.self.view_is) c.requires.older in
     let middle : c.max-middle.result ≡ max c.args.older s.shown = omega (arith, c.max-middle.ensures) in
-    let none : [] ≡ (near_at s c.args.at).enter = none_enters s c.args.at c.args.older c.max-middle.result c.self.invariant.order.ordered c.self.invariant.few older middle (omega (arith, c.len-len.ensures, c.if-branch.false)) in
+    let none : [] ≡ (near_at s c.args.at).enter = none_enters s c.args.at c.args.older c.max-middle.result c.self.invariant.order.ordered c.self.invariant.few older middle (omega (arith, c.len-len.ensures, c.if-middle-len.false)) in
     let P : List Row → Type 0 = λ rows. HasGained (map (RowAt c.args.at) (map entering rows)) c.args.queue.now c.args.queue.now in
     subst (λ (x : InstantState). P (near_at x c.args.at).enter) c.self.view_is (subst P none (gained-none c.args.queue.now))

@@ -8,7 +8,7 @@ use Rattle.windows.proofs.InstantsLemmas.{leave_is, past_few}
 use Rattle.windows.proofs.instants.InstantWindow.put_leaving.Goals as goal
 
 pub put_held-requires-clause-within : goal.put_held-requires-clause-within
-put_held-requires-clause-within c = omega (arith, c.min.ensures, c.self.invariant.few, c.len-_len.ensures)
+put_held-requires-clause-within c = omega (arith, c.min.ensures, c.self.invariant.few, c.len-len.ensures)
 
 pub put_held-requires-clause-forward : goal.put_held-requires-clause-forward
 put_held-requires-clause-forward c =

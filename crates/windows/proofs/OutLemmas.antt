@@ -35,7 +35,7 @@ stands_after first n (Instants s) held st = subst (instants.IsAfter n) (sym st.s
 stands_after first n (Latest s) held st = tt
 
 -- what rows make it put out are rows of their instant, and a tick's rows come before the tick
-none_out : rows_in [] ≡ []
+none_out : let es : List (Entry Row) = [] in rows_in es ≡ []
 unfolding rows_in
 none_out = refl
 

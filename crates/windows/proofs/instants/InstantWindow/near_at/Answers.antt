@@ -2,8 +2,15 @@ use Rattle.std.proofs.Common.{subst, ap, ap₂, sym, ◌∙◌, ◌≡◌, ◌-�
 use Rattle.values.specs.Row.{Row}
 use Rattle.windows.specs.Instants.{HaveOneWidthIn, InstantExcerpt, InstantState, near_at, past_count}
 use Rattle.windows.specs.Reach.{oldest}
-use Rattle.windows.proofs.InstantsLemmas.{Parted, near_wide, parted}
+use Rattle.windows.proofs.InstantsLemmas.{Parted, near_wide, parted, past_few}
 use Rattle.windows.proofs.instants.InstantWindow.near_at.Goals as goal
+
+pub part-requires-2-clause-ordered : goal.part-requires-2-clause-ordered
+part-requires-2-clause-ordered c =
+    let s : InstantState = record { reach = c.self.inside.reach; width = c.self.inside.held.width; held = c.self.inside.held.held; shown = c.self.inside.shown } in
+    let older : ℕ = c.count_past-older.result in
+    let counted : older ≡ past_count s c.args.at = subst (λ (x : InstantState). older ≡ past_count x c.args.at) (sym c.self.view_is) c.count_past-older.ensures in
+    omega (arith, c.max.ensures, c.len.ensures, past_few s c.args.at older counted, c.self.invariant.few)
 
 pub returns-clause-value : goal.returns-clause-value
 returns-clause-value c =

@@ -17,11 +17,7 @@ use turn::{ColumnList, Kind, StepList};
 use values::{Condition, ListItem, MAX_COLUMNS, SourceColumn};
 
 /// Makes what an operator does. It reads how many columns each operator's rows have.
-pub(crate) fn kind_made(
-    alloc: Global,
-    widths: &[usize],
-    node: &Node,
-) -> Result<Kind, AllocError>
+pub(crate) fn kind_made(alloc: Global, widths: &[usize], node: &Node) -> Result<Kind, AllocError>
     requires { HasMakeableKind widths.now node.now }
     ensures { IfOk result (λ kind. kind ≡ kind_made widths.now node.now) }
 {

@@ -88,11 +88,7 @@ impl Window {
     ///
     /// # Errors
     /// `AllocError` when out of memory.
-    pub fn new(
-        alloc: Global,
-        window: &values::Window,
-        width: usize,
-    ) -> Result<Window, AllocError>
+    pub fn new(alloc: Global, window: &values::Window, width: usize) -> Result<Window, AllocError>
         requires { IsFormed window.now }
         ensures { IfOk result (Begins (told.window_of window.now) width) }
     {
@@ -193,12 +189,7 @@ fn of_reach(alloc: Global, reach: Reach, width: usize) -> Window
 }
 
 /// Returns a window without rows that shows the last `count` of each partition.
-fn of_last(
-    alloc: Global,
-    columns: &[usize],
-    count: u64,
-    width: usize,
-) -> Result<Window, AllocError>
+fn of_last(alloc: Global, columns: &[usize], count: u64, width: usize) -> Result<Window, AllocError>
     requires { length columns.now ≤ MAX_COLUMNS }
     ensures { IfOk result (Begins (LastRows columns.now count) width) }
 {

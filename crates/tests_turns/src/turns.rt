@@ -150,18 +150,17 @@ fn add_nodes(alloc: Global, text: &mut String) -> Result<(), AllocError> {
     )
 }
 
-/// Makes the excerpt of a window that a row enters at the tick.
+/// Makes the excerpt of a window that the row 7 and another enter at the tick.
 fn showing(alloc: Global, number: i64) -> Result<Excerpt, AllocError> {
-    let batch = Batch::from_rows(alloc, &[entering(number)])?;
-    let _few = batch.len(); // for the proof
+    let batch = two(alloc, 7, number)?;
     let mut window = Window::new(alloc, &values::Window::RangeSlide(1, 2), 1)?;
     window.apply(&Item::Rows(1, batch))?;
     let rows = window.near(alloc, &Item::Tick(2))?;
     Ok(Excerpt::Window(rows))
 }
 
-/// Returns whether the excerpt of a window that the row 5 enters is the same as that of another
-/// row.
+/// Returns whether the excerpt of a window that the rows 7 and 5 enter is the same as that of 7 and
+/// another row.
 fn is_same_showing(alloc: Global, number: i64) -> Result<bool, AllocError> {
     let five = showing(alloc, 5)?;
     let other = showing(alloc, number)?;

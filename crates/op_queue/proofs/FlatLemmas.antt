@@ -83,7 +83,8 @@ module _ {H : Type 0} where
   pub rows_in-part : (w place count start end : ℕ) (hs : List H) (values : List (Option ℤ)) → start ≡ place * w → end ≡ start + count * w
       → rows_in w (take count (drop place hs)) (take (end - start) (drop start values)) ≡ take count (drop place (rows_in w hs values))
   rows_in-part w place count start end hs values s e =
-      ap₂ (λ (m n : ℕ). rows_in w (take count (drop place hs)) (take m (drop n values))) (omega (arith, e)) s
+      let few : end - start ≡ count * w = omega (arith, e) in
+      ap₂ (λ (m n : ℕ). rows_in w (take count (drop place hs)) (take m (drop n values))) few s
       ∙ rows_in-take w count (drop place hs) (drop (place * w) values)
       ∙ ap (take count) (rows_in-drop w place hs values)
 
@@ -95,9 +96,10 @@ module _ {H : Type 0} where
   row-at w place [] values d lt = absurd (omega (arith, lt))
   row-at w zero (h ∷ hs) values d lt = ap (λ n. take w (drop n values)) (sym (zero-mul w))
   row-at w (suc place) (h ∷ hs) values d lt =
+      let e : w + place * w ≡ suc place * w = omega (arith, suc-mul place w) in
       row-at w place hs (drop w values) d (omega (arith, lt))
       ∙ ap (take w) (drop-drop (place * w) w values)
-      ∙ ap (λ n. take w (drop n values)) (omega (arith, suc-mul place w))
+      ∙ ap (λ n. take w (drop n values)) e
 
   -- a place among the rows is one among the heads
   pub is_there : (w place : ℕ) (hs : List H) (values : List (Option ℤ)) (o : Flat H) → flat_in w hs values ≡ o → place < length o.rows → place < length hs
@@ -133,32 +135,32 @@ signed-flat w (e ∷ enters) values = ap₂ (λ (b : Bool) (rs : List (Bool × R
 
 -- THE SAME ROWS
 -- rows without heads are known from their number and their values
-pub values_in : (w : ℕ) (hs : List Unit) (values : List (Option ℤ)) → length values ≡ length hs * w → flat_map (λ r. r.1) (rows_in w hs values) ≡ values
+pub values_in : (w : ℕ) (hs : List (Unit {0})) (values : List (Option ℤ)) → length values ≡ length hs * w → flat_map (λ r. r.1) (rows_in w hs values) ≡ values
 values_in w [] [] size = refl
 values_in w [] (v ∷ values) size = absurd (omega (arith, size, zero-mul w))
 values_in w (h ∷ hs) values size =
     let rest : length (drop w values) ≡ length hs * w = length-drop w values ∙ omega (arith, size, suc-mul (length hs) w) in
     ap (λ (vs : List (Option ℤ)). take w values ++ vs) (values_in w hs (drop w values) rest) ∙ take-append-drop w values
 
-pub same_values : (w v : ℕ) (hs gs : List Unit) (values others : List (Option ℤ)) → AreFlat w hs values → AreFlat v gs others → rows_in w hs values ≡ rows_in v gs others → values ≡ others
-same_values w v hs gs values others are those is = sym (values_in w hs values are.size) ∙ ap (flat_map (λ (r : Unit × Row). r.1)) is ∙ values_in v gs others those.size
+pub same_values : (w v : ℕ) (hs gs : List (Unit {0})) (values others : List (Option ℤ)) → AreFlat w hs values → AreFlat v gs others → rows_in w hs values ≡ rows_in v gs others → values ≡ others
+same_values w v hs gs values others are those is = sym (values_in w hs values are.size) ∙ ap (flat_map (λ (r : Unit {0} × Row). r.1)) is ∙ values_in v gs others those.size
 
-same_heads : (hs gs : List Unit) → length hs ≡ length gs → hs ≡ gs
+same_heads : (hs gs : List (Unit {0})) → length hs ≡ length gs → hs ≡ gs
 same_heads [] [] e = refl
 same_heads [] (g ∷ gs) e = absurd (omega (arith, e))
 same_heads (h ∷ hs) [] e = absurd (omega (arith, e))
-same_heads (h ∷ hs) (g ∷ gs) e = ap (λ (l : List Unit). tt ∷ l) (same_heads hs gs (omega (arith, e)))
+same_heads (h ∷ hs) (g ∷ gs) e = ap (λ (l : List (Unit {0})). tt ∷ l) (same_heads hs gs (omega (arith, e)))
 
 -- if there are none, their width says nothing
-alike : (w v : ℕ) (hs : List Unit) (values : List (Option ℤ)) → length values ≡ length hs * w → length values ≡ length hs * v → rows_in w hs values ≡ rows_in v hs values
+alike : (w v : ℕ) (hs : List (Unit {0})) (values : List (Option ℤ)) → length values ≡ length hs * w → length values ≡ length hs * v → rows_in w hs values ≡ rows_in v hs values
 alike w v [] values size other = refl
 alike w v (h ∷ hs) values size other =
     ap (λ (u : ℕ). rows_in u (h ∷ hs) values) (eq_of_mul-eq-mul_left (length (h ∷ hs)) (omega arith) w v (sym size ∙ other))
 
-pub same_many : (w v : ℕ) (hs gs : List Unit) (values others : List (Option ℤ)) → rows_in w hs values ≡ rows_in v gs others → length hs ≡ length gs
-same_many w v hs gs values others is = sym (length-rows_in w hs values) ∙ ap (λ (rs : List (Unit × Row)). length rs) is ∙ length-rows_in v gs others
+pub same_many : (w v : ℕ) (hs gs : List (Unit {0})) (values others : List (Option ℤ)) → rows_in w hs values ≡ rows_in v gs others → length hs ≡ length gs
+same_many w v hs gs values others is = sym (length-rows_in w hs values) ∙ ap (λ (rs : List (Unit {0} × Row)). length rs) is ∙ length-rows_in v gs others
 
-pub same_rows : (w v : ℕ) (hs gs : List Unit) (values others : List (Option ℤ)) → AreFlat w hs values → AreFlat v gs others → length hs ≡ length gs → values ≡ others → rows_in w hs values ≡ rows_in v gs others
+pub same_rows : (w v : ℕ) (hs gs : List (Unit {0})) (values others : List (Option ℤ)) → AreFlat w hs values → AreFlat v gs others → length hs ≡ length gs → values ≡ others → rows_in w hs values ≡ rows_in v gs others
 same_rows w v hs gs values others are those many is =
     alike w v hs values are.size (ap length is ∙ those.size ∙ ap (λ n. n * v) (sym many))
     ∙ ap₂ (rows_in v) (same_heads hs gs many) is

@@ -47,8 +47,6 @@ use Rattle.group.specs.contracts.slot_list.GroupSlot as group_slot
 use Rattle.group.specs.contracts.slot_list.SlotList as slot_list
 use Rattle.group.specs.contracts.slots.Slots as slots
 use Rattle.group.specs.contracts.keyed.Keyed as keyed
-use Rattle.group.specs.contracts.lists.ValueLists as value_lists
-use Rattle.group.specs.contracts.lists.FigureLists as figure_lists
 use Rattle.group.specs.contracts.lists.ShownLists as shown_lists
 use Rattle.group.specs.contracts.turn.GroupExcerpt as touched
 use Rattle.to_stream.specs.contracts.RootExcerpt as lists
@@ -229,19 +227,13 @@ pub fallen_rows_send : IsSend fallen_rows.the_row
 fallen_rows_send = search (sendable, crosses, row_table_send) depth 40
 
 pub matches_send : IsSend matches.the_row
-matches_send = search (sendable, crosses, value_send) depth 30
-
-pub value_lists_send : IsSend value_lists.the_row
-value_lists_send = search (sendable, crosses, value_send) depth 30
-
-pub figure_lists_send : IsSend figure_lists.the_row
-figure_lists_send = search (sendable, crosses, value_send) depth 40
+matches_send = search (sendable, crosses, value_send) depth 40
 
 pub shown_lists_send : IsSend shown_lists.the_row
-shown_lists_send = search (sendable, crosses, value_lists_send) depth 30
+shown_lists_send = search (sendable, crosses, value_send) depth 40
 
 pub touched_send : IsSend touched.the_row
-touched_send = search (sendable, crosses, value_lists_send, figure_lists_send, shown_lists_send) depth 40
+touched_send = search (sendable, crosses, value_send, shown_lists_send) depth 40 fits 100000
 
 pub lists_send : IsSend lists.the_row
 lists_send = search (sendable, crosses, delta_send, row_list_send) depth 30

@@ -134,33 +134,36 @@ signed-flat w [] values = refl
 signed-flat w (e ∷ enters) values = ap₂ (λ (b : Bool) (rs : List (Bool × Row)). (b, take w values) ∷ rs) (not-not e) (signed-flat w enters (drop w values))
 
 -- THE SAME ROWS
--- rows without heads are known from their number and their values
-pub values_in : (w : ℕ) (hs : List (Unit {0})) (values : List (Option ℤ)) → length values ≡ length hs * w → flat_map (λ r. r.1) (rows_in w hs values) ≡ values
+-- rows whose heads say nothing are known from their number and their values
+abbrev NoHead : Type 0
+NoHead = Unit {0}
+
+pub values_in : (w : ℕ) (hs : List NoHead) (values : List (Option ℤ)) → length values ≡ length hs * w → flat_map (λ r. r.1) (rows_in w hs values) ≡ values
 values_in w [] [] size = refl
 values_in w [] (v ∷ values) size = absurd (omega (arith, size, zero-mul w))
 values_in w (h ∷ hs) values size =
     let rest : length (drop w values) ≡ length hs * w = length-drop w values ∙ omega (arith, size, suc-mul (length hs) w) in
     ap (λ (vs : List (Option ℤ)). take w values ++ vs) (values_in w hs (drop w values) rest) ∙ take-append-drop w values
 
-pub same_values : (w v : ℕ) (hs gs : List (Unit {0})) (values others : List (Option ℤ)) → AreFlat w hs values → AreFlat v gs others → rows_in w hs values ≡ rows_in v gs others → values ≡ others
-same_values w v hs gs values others are those is = sym (values_in w hs values are.size) ∙ ap (flat_map (λ (r : Unit {0} × Row). r.1)) is ∙ values_in v gs others those.size
+pub same_values : (w v : ℕ) (hs gs : List NoHead) (values others : List (Option ℤ)) → AreFlat w hs values → AreFlat v gs others → rows_in w hs values ≡ rows_in v gs others → values ≡ others
+same_values w v hs gs values others are those is = sym (values_in w hs values are.size) ∙ ap (flat_map (λ (r : NoHead × Row). r.1)) is ∙ values_in v gs others those.size
 
-same_heads : (hs gs : List (Unit {0})) → length hs ≡ length gs → hs ≡ gs
+same_heads : (hs gs : List NoHead) → length hs ≡ length gs → hs ≡ gs
 same_heads [] [] e = refl
 same_heads [] (g ∷ gs) e = absurd (omega (arith, e))
 same_heads (h ∷ hs) [] e = absurd (omega (arith, e))
-same_heads (h ∷ hs) (g ∷ gs) e = ap (λ (l : List (Unit {0})). tt ∷ l) (same_heads hs gs (omega (arith, e)))
+same_heads (h ∷ hs) (g ∷ gs) e = ap (λ (l : List NoHead). h ∷ l) (same_heads hs gs (omega (arith, e)))
 
 -- if there are none, their width says nothing
-alike : (w v : ℕ) (hs : List (Unit {0})) (values : List (Option ℤ)) → length values ≡ length hs * w → length values ≡ length hs * v → rows_in w hs values ≡ rows_in v hs values
+alike : (w v : ℕ) (hs : List NoHead) (values : List (Option ℤ)) → length values ≡ length hs * w → length values ≡ length hs * v → rows_in w hs values ≡ rows_in v hs values
 alike w v [] values size other = refl
 alike w v (h ∷ hs) values size other =
     ap (λ (u : ℕ). rows_in u (h ∷ hs) values) (eq_of_mul-eq-mul_left (length (h ∷ hs)) (omega arith) w v (sym size ∙ other))
 
-pub same_many : (w v : ℕ) (hs gs : List (Unit {0})) (values others : List (Option ℤ)) → rows_in w hs values ≡ rows_in v gs others → length hs ≡ length gs
-same_many w v hs gs values others is = sym (length-rows_in w hs values) ∙ ap (λ (rs : List (Unit {0} × Row)). length rs) is ∙ length-rows_in v gs others
+pub same_many : (w v : ℕ) (hs gs : List NoHead) (values others : List (Option ℤ)) → rows_in w hs values ≡ rows_in v gs others → length hs ≡ length gs
+same_many w v hs gs values others is = sym (length-rows_in w hs values) ∙ ap (λ (rs : List (NoHead × Row)). length rs) is ∙ length-rows_in v gs others
 
-pub same_rows : (w v : ℕ) (hs gs : List (Unit {0})) (values others : List (Option ℤ)) → AreFlat w hs values → AreFlat v gs others → length hs ≡ length gs → values ≡ others → rows_in w hs values ≡ rows_in v gs others
+pub same_rows : (w v : ℕ) (hs gs : List NoHead) (values others : List (Option ℤ)) → AreFlat w hs values → AreFlat v gs others → length hs ≡ length gs → values ≡ others → rows_in w hs values ≡ rows_in v gs others
 same_rows w v hs gs values others are those many is =
     alike w v hs values are.size (ap length is ∙ those.size ∙ ap (λ n. n * v) (sym many))
     ∙ ap₂ (rows_in v) (same_heads hs gs many) is

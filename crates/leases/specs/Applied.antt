@@ -149,3 +149,9 @@ MayTell e above = MatchOption above ⊤ (λ a. HasOperatorAt e a.query a.operato
 abbrev pub BothStand : List Slot → Slot → Option Slot → Type 0
 BothStand slots s above = Stands s slots
     × MatchOption above ⊤ (λ a. Stands a slots × (a.operator ≢ s.operator))
+
+-- each is as it stands in the list, and of another operator than those before it
+abbrev pub AllStand : List Slot → List Slot → Type 0
+AllStand slots [] = ⊤
+AllStand slots (s ∷ ss) = Stands s slots
+    × AllByRecursion (λ t. t.operator ≢ s.operator) ss × AllStand slots ss

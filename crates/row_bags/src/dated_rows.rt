@@ -117,10 +117,15 @@ impl DatedRows {
         Some(head.instant)
     }
 
-    /// Drops the first `count` rows, or all if there are fewer. It costs these.
+    /// Drops the first `count` rows, or all if there are fewer. It costs these, and hardly anything
+    /// if all go.
     pub fn drop_first(&mut self, count: usize)
         ensures { self.new ≡ drop count self.old }
     {
+        if count >= self.len() {
+            self.clear();
+            return;
+        }
         let mut row = Row::new();
         for _ in 0..count {
             match self.pop_front_into(&mut row) {
@@ -128,6 +133,14 @@ impl DatedRows {
                 None => return,
             }
         }
+    }
+
+    /// Drops all rows, and keeps their memory for those to come.
+    fn clear(&mut self)
+        ensures { self.new ≡ [] }
+    {
+        self.heads.clear();
+        self.values.clear();
     }
 
     /// Keeps the first `count` rows, and drops those after them.

@@ -68,7 +68,8 @@ pub fn run_project(
 }
 
 /// Takes what stands first in a queue, a tick or at most `rows` rows, and pushes what Project emits
-/// at it to the back of another queue. Columns are copied.
+/// at it to the back of another queue. Columns of a batch that leaves whole are moved, if they keep
+/// their order; else they are copied.
 ///
 /// # Errors
 /// `AllocError` when out of memory; then both queues are as they were.
@@ -121,6 +122,9 @@ fn project_whole(
         OnFalse moved ((from.new ≡ from.old) × (to.new ≡ to.old))) }
     ensures err { OnErr result ((from.new ≡ from.old) × (to.new ≡ to.old)) }
 {
+    if from.move_columns(rows, columns, to)? {
+        return Ok(true);
+    }
     let Some((at, batch)) = from.front_batch(rows) else {
         return Ok(false);
     };

@@ -1,6 +1,6 @@
 use Rattle.std.proofs.Common.{◌≡◌, ◌-◌, vec_len, vec_capacity}
 use Rattle.column.proofs.StrideLemmas.{IsStrided}
-use Rattle.column.proofs.column.Column.strided.Given as goal
+use Rattle.column.proofs.column.Column.strided_by_words.Given as goal
 
 abbrev pub invariant-loop-from : goal.invariant-loop-from
 invariant-loop-from l = record {

@@ -1,7 +1,7 @@
 use Rattle.std.proofs.Common.{◌∙◌, ap, arith, ◌++◌, ◌∷◌, [], replicate}
 use Rattle.column.specs.Bits.{bits}
 use Rattle.std.proofs.lemmas.List.{replicate-append-replicate}
-use Rattle.column.proofs.mask.Mask.filled.Goals as goal
+use Rattle.column.proofs.mask.Mask.filled_by_words.Goals as goal
 
 pub loop-from-preserved : goal.loop-from-preserved
 loop-from-preserved c = record {

@@ -1,6 +1,6 @@
 use Rattle.std.proofs.Common.{arith, ◌∙◌}
 use Rattle.column.proofs.StrideLemmas.{IsStrided-more, strided_made, within_more}
-use Rattle.column.proofs.column.Column.strided.Goals as goal
+use Rattle.column.proofs.column.Column.strided_by_words.Goals as goal
 
 pub push_cells-word-requires-clause-within : goal.push_cells-word-requires-clause-within
 push_cells-word-requires-clause-within c =

@@ -122,7 +122,7 @@ impl DatedRows {
     pub fn drop_first(&mut self, count: usize)
         ensures { self.new ≡ drop count self.old }
     {
-        if count >= self.len() {
+        if self.len() <= count {
             self.clear();
             return;
         }

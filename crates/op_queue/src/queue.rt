@@ -312,10 +312,10 @@ impl Queue {
         let Some((at, batch)) = take_few(&mut self.pieces, count) else {
             return Ok(false);
         };
-        let size = batch.len() as u128;
-        self.waiting -= size;
-        to.pieces
-            .push_back_reserved(Piece::Rows(at, batch.narrowed(places)));
+        self.waiting -= batch.len() as u128;
+        let rows = batch.narrowed(places);
+        let size = rows.len() as u128;
+        to.pieces.push_back_reserved(Piece::Rows(at, rows));
         let _count = to.pieces.len(); // for the proof
         to.waiting += size;
         Ok(true)

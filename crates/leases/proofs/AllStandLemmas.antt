@@ -17,7 +17,7 @@ use Rattle.leases.proofs.ToldAllLemmas.{below_are}
 -- THE OTHERS stand when one is told
 pub rest_stand : (s : Slot) (next : Option (Side × ℕ)) (slots ss : List Slot) → AllByRecursion (λ t. t.operator ≢ s.operator) ss → AllStand slots ss → AllStand (changed s next slots) ss
 rest_stand s next slots [] apart h = tt
-rest_stand s next slots (t ∷ ss) apart h = (stands_on s t next slots apart.0 h.0, (h.1.0, rest_stand s next slots ss apart.1 h.1.1))
+rest_stand s next slots (t ∷ ss) apart h = (stands_on s t next slots apart.0 h.0, h.1, rest_stand s next slots ss apart.1 h.2)
 
 -- the first of those that are left
 pub stand_next : (slots ss : List Slot) (k : ℕ) (s : Slot) → k < length ss → s ≡ get_or ss k s → AllStand slots (drop k ss) → AllStand slots (s ∷ drop (k + 1) ss)
@@ -31,8 +31,8 @@ apart_last x y [] h last = (last, tt)
 apart_last x y (z ∷ xs) h last = (h.0, apart_last x y xs h.1 last)
 
 stand_last : (slots xs : List Slot) (y : Slot) → AllStand slots xs → Stands y slots → AllByRecursion (λ t. y.operator ≢ t.operator) xs → AllStand slots (xs ++ y ∷ [])
-stand_last slots [] y h last apart = (last, (tt, tt))
-stand_last slots (x ∷ xs) y h last apart = (h.0, (apart_last x y xs h.1.0 apart.0, stand_last slots xs y h.1.1 last apart.1))
+stand_last slots [] y h last apart = (last, tt, tt)
+stand_last slots (x ∷ xs) y h last apart = (h.0, apart_last x y xs h.1 apart.0, stand_last slots xs y h.2 last apart.1)
 
 module _ (e : PlainEngine) (g : GoodEngine e) (n : ℕ) (q : Registered) (p : PlainQuery) (registered : query_at e n ≡ Some q) (running : remains_at e n ≡ Running p) where
   pub below_stand : (k : ℕ) → k ≤ length q.nodes → AllStand e.slots (slots_below e n q p k)

@@ -312,7 +312,8 @@ impl Queue {
         let Some((at, batch)) = take_few(&mut self.pieces, count) else {
             return Ok(false);
         };
-        self.waiting -= batch.len() as u128;
+        let gone = batch.len();
+        self.waiting -= gone as u128;
         let rows = batch.narrowed(places);
         let size = rows.len() as u128;
         to.pieces.push_back_reserved(Piece::Rows(at, rows));

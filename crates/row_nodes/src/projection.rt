@@ -125,6 +125,29 @@ fn project_whole(
     if from.move_columns(rows, columns, to)? {
         return Ok(true);
     }
+    project_copied(alloc, columns, rows, from, to)
+}
+
+/// Does the same by a copy of the columns.
+fn project_copied(
+    alloc: Global,
+    columns: &[usize],
+    rows: usize,
+    from: &mut Queue,
+    to: &mut Queue,
+) -> Result<bool, AllocError>
+    requires narrow { length columns.now ≤ MAX_COLUMNS }
+    requires some { 0 < rows }
+    requires within { (i : PlainItem) → IsFrontPart rows from.old.entries i
+        → AreColumns columns.now i }
+    requires forward { (i : PlainItem) → IsFrontPart rows from.old.entries i
+        → IsForward (to.old.entries ++ projected columns.now i) }
+    ensures moved { IfOk result (λ moved. OnTrue moved
+        (HasGoneOn rows (projected columns.now) from.old to.old from.new to.new)) }
+    ensures stays { IfOk result (λ moved.
+        OnFalse moved ((from.new ≡ from.old) × (to.new ≡ to.old))) }
+    ensures err { OnErr result ((from.new ≡ from.old) × (to.new ≡ to.old)) }
+{
     let Some((at, batch)) = from.front_batch(rows) else {
         return Ok(false);
     };

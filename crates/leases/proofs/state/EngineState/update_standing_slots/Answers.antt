@@ -35,7 +35,7 @@ loop-place-preserved c =
       same = is ∙ ap (with_slots c.args.self.now) (sym slots);
       left = here.1;
       stand = subst (λ z. AllStand z (drop (c.loop-place.place + 1) c.args.slots.now)) (sym slots)
-          (rest_stand slot (next_for (engine_in c.args.self.now) slot.query slot.operator) c.loop-place.self.slots (drop (c.loop-place.place + 1) c.args.slots.now) stands.1.0 stands.1.1);
+          (rest_stand slot (next_for (engine_in c.args.self.now) slot.query slot.operator) c.loop-place.self.slots (drop (c.loop-place.place + 1) c.args.slots.now) stands.1 stands.2);
       tells =
           ap (with_updates (engine_in c.args.self.now) (drop (c.loop-place.place + 1) c.args.slots.now)) slots
           ∙ sym (told_next (engine_in c.args.self.now) c.args.slots.now c.loop-place.place slot c.loop-place.self.slots c.loop-place-test.true c.index-slots-place.is)

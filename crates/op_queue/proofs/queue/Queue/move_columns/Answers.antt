@@ -16,7 +16,7 @@ overflow_add-to c = omega (arith, c.len-count.ensures, length-queue_push c.to.in
 
 pub invariant_of-self-2 : goal.invariant_of-self-2
 invariant_of-self-2 c =
-    rw c.len.ensures.value
+    rw c.len-gone.ensures.value
     (few_queue c.args.count c.self.inside.pieces.items c.take_few.new.pieces.items c.in-Some.at c.in-Some.batch c.if-self-ne0.false c.self.invariant c.in-Some.ensures c.requires.some)
 
 pub invariant_of-to-2 : goal.invariant_of-to-2

@@ -43,5 +43,5 @@ module _ (e : PlainEngine) (g : GoodEngine e) (n : ℕ) (q : Registered) (p : Pl
       stand_last e.slots (slots_below e n q p k) y (below_stand k (omega (arith, few)))
       (stands_in e g y (slot_is e n k q p registered running within))
       (all_of (λ t. y.operator ≢ t.operator) (slots_below e n q p k) (λ x i.
-          let r = below_are e n q p k x i in
-          λ z. let same : k ≡ r.0 = z ∙ ap (λ (t : Slot). t.operator) r.1.1 in absurd (omega (arith, r.1.0, same))))
+      let r = below_are e n q p k x i in
+      λ z. let same : k ≡ r.0 = z ∙ ap (λ (t : Slot). t.operator) r.1.1 in absurd (omega (arith, r.1.0, same))))

@@ -1,6 +1,6 @@
 //! Builds the query as far as it is read.
 
-ghost use Rattle.std.specs.Prelude.{◌≡◌, ◌≤◌, true, length, map, OnOk};
+ghost use Rattle.std.specs.Prelude.{◌≡◌, ◌<◌, ◌≤◌, true, length, map, OnOk};
 ghost use Rattle.cql_reader.specs.Lexis.{number_of};
 ghost use Rattle.cql_reader.specs.declared.tokens.TokenKind.TheVariants as kinds;
 ghost use Rattle.cql_reader.specs.declared.symbols.Mark.TheVariants as marks;
@@ -18,7 +18,7 @@ use crate::stack::Terms;
 use crate::symbols::{Mark, Role};
 use std::alloc::{AllocError, Global};
 use std::mem;
-use values::StreamOperator;
+use values::{Step, StreamOperator};
 
 /// Holds what is complete of a query, and what is being read.
 #[derive(Drop)]
@@ -113,10 +113,11 @@ impl Draft {
 
     /// Lets the window of instants on the source move only at multiples of the step.
     fn slide(&mut self, step: u64)
+        requires { 0 < step }
         ensures { draft_of self.new ≡ slid step (draft_of self.old) }
     {
         if let WrittenWindow::Range(instants) = self.source.window {
-            self.source.window = WrittenWindow::RangeSlide(instants, step);
+            self.source.window = WrittenWindow::RangeSlide(instants, Step::new(step));
         }
     }
 

@@ -6,7 +6,7 @@ use Rattle.std.specs.Str.{bytes_eq}
 use Rattle.std.proofs.lemmas.List.{length-map}
 use Rattle.std.proofs.lemmas.List.FromFn.{length-map-range_with_len}
 use Rattle.std.proofs.lemmas.List.Sums.{sum_by-cons}
-use Rattle.std.proofs.lemmas.Bool.{le-leb, lt-ltb, ltb-false}
+use Rattle.std.proofs.lemmas.Bool.{le-leb, ltb-false}
 use Rattle.std.proofs.lemmas.Bool.Decides.{nat_tests}
 use Rattle.std.proofs.Math.Nat.{mul-suc}
 use Rattle.values.specs.declared.TheConstants.{MAX_COLUMNS}
@@ -18,7 +18,6 @@ use Rattle.values.specs.declared.resolved.Shape.TheVariants.{Listed, Grouped}
 use Rattle.values.specs.declared.resolved.Window.{Window}
 use Rattle.values.specs.declared.resolved.Window.TheVariants.{Range, RangeSlide, Unbounded, LastRows}
 use Rattle.cql_reader.specs.Query as syntax
-use Rattle.cql_reader.specs.WellFormed.{IsGoodWindow}
 use Rattle.names.specs.Catalog.{Stream, number_in, columns_in}
 use Rattle.names.specs.Matches as matches
 use Rattle.names.specs.Matches.{Table, table_of, tables, allows, places, columns_at, matches_in, first_column, place_in}
@@ -26,7 +25,7 @@ use Rattle.names.specs.Resolved as spec
 use Rattle.names.specs.Resolved.{all_columns, named_by, entry_list, is_grouped, listed_columns, windows_of, streams}
 use Rattle.names.specs.Faults.{partition_of, partition_matches, all_matches, references_of_where, is_missing, is_many, has_repeat, lacks_key, is_ungrouped, is_wide, first_fault}
 use Rattle.names.specs.Split.{all_conjuncts}
-use Rattle.names.specs.Sound.{has_narrow_rows, can_slide, all_slide, is_within, all_within}
+use Rattle.names.specs.Sound.{has_narrow_rows, is_within, all_within}
 use Rattle.names.proofs.Lists.{any_append}
 use Rattle.names.proofs.Tables.{first_of_tests}
 
@@ -126,30 +125,6 @@ narrow (Grouped by listed) ts q e items group w =
     )))
 
 -- WINDOWS
-
-slide : (w : Window) (t : Table) (v : syntax.WrittenWindow) → IsGoodWindow v → window_of w ≡ spec.window_of t v → can_slide w ≡ true
-slide (Range n) t v g h = refl
-slide (RangeSlide n l) t syntax.Now g h = absurd (cc)
-slide (RangeSlide n l) t (syntax.Range m) g h = absurd (cc)
-slide (RangeSlide n l) t (syntax.RangeSlide m k) g h =
-    let step : l ≡ k = cc in
-    lt-ltb 0 l (omega (arith, step, g.1.0))
-slide (RangeSlide n l) t syntax.Unbounded g h = absurd (cc)
-slide (RangeSlide n l) t (syntax.Rows m) g h = absurd (cc)
-slide (RangeSlide n l) t (syntax.Partition by m) g h = absurd (cc)
-slide Unbounded t v g h = refl
-slide (LastRows columns n) t v g h = refl
-
--- a window that slides does so by one instant or more, where those of the text do
-pub slides : (ws : List Window) (catalog : List Stream) (ss : List syntax.WrittenSource) → Each' (λ s. IsGoodWindow s.window) ss → map window_of ws ≡ windows_of catalog ss
-    → all_slide ws ≡ true
-slides [] catalog ss g h = refl
-slides (w ∷ ws) catalog [] g h = absurd (cc)
-slides (w ∷ ws) catalog (s ∷ ss) g h =
-    let here : window_of w ≡ spec.window_of (table_of catalog s) s.window = cc in
-    let rest : map window_of ws ≡ windows_of catalog ss = cc in
-    both_true (can_slide w) (all_slide ws) (slide w (table_of catalog s) s.window (g zero s (omega arith)) here)
-    (slides ws catalog ss (λ k d lt. g (suc k) d (omega (arith, lt))) rest)
 
 places_in : (n m : ℕ) (name : List ℕ) (xs : List (List ℕ)) → n + length xs ≤ m → AllByRecursion (λ k. k < m) (places n name xs)
 places_in n m name [] h = tt

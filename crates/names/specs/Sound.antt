@@ -14,16 +14,6 @@ has_narrow_rows (Listed columns) = nat_le (length columns.items) MAX_COLUMNS
 has_narrow_rows (Grouped by items) =
     nat_le (length by.items) MAX_COLUMNS && nat_le (length items.items) MAX_COLUMNS
 
--- a window slides by one instant or more
-abbrev pub can_slide : Window → Bool
-can_slide (Range n) = true
-can_slide (RangeSlide n l) = nat_lt 0 l
-can_slide Unbounded = true
-can_slide (LastRows columns n) = true
-
-abbrev pub all_slide : List Window → Bool
-all_slide windows = list_all can_slide windows
-
 -- the columns of Partition By are columns of a source so wide, and at most MAX_COLUMNS
 abbrev pub is_within : Window → ℕ → Bool
 is_within (Range n) width = true

@@ -158,24 +158,6 @@ module _ (instants numbers : List ℕ) (columns : List (List (Option ℤ))) (pla
   range_needed n least new e s = sets_same (is_from instants numbers place least) (needs (Range n)) old new s
       (λ i l. range_needs instants numbers columns place first next i n ∙ ap (λ x. is_from instants numbers place x i) (sym e))
 
-  -- it does not move at 0
-  pub still_needed : (n l : ℕ) (new : List Bool) → l ≡ 0 → Sets (is_from instants numbers place first) old new → Sets (needs (RangeSlide n l)) old new
-  still_needed n l new z s = sets_same (is_from instants numbers place first) (needs (RangeSlide n l)) old new s (λ i u. ap (λ k. needs (RangeSlide n k) i) z ∙ none i)
-    where
-      none : (i : ℕ) → needs (RangeSlide n 0) i ≡ is_from instants numbers place first i
-      none i = here (has_arrived numbers place i) (nat_le first (get_or instants i 0)) (nat_le next (get_or instants i 0)) ((nat_le first ((next - 1) / 0 * 0) && nat_le ((next - 1) / 0 * 0 - n) (get_or instants i 0)) && nat_le (get_or instants i 0) ((next - 1) / 0 * 0))
-          (nat_le (((next - 1) / 0 + 1) * 0 - n) (get_or instants i 0)) (le-leb (((next - 1) / 0 + 1) * 0 - n) (get_or instants i 0) (omega arith))
-        where
-          here : (p f a b c : Bool) → c ≡ true → ((p && f) && (a || (b || c))) ≡ (p && f)
-          here p f a b c e = ap (λ x. (p && f) && (a || (b || x))) e ∙ last p f a b
-            where
-              last : (p f a b : Bool) → ((p && f) && (a || (b || true))) ≡ (p && f)
-              last true true true b = refl
-              last true true false true = refl
-              last true true false false = refl
-              last true false a b = refl
-              last false f a b = refl
-
   pub slide_needed : (n l m least lower : ℕ) (mid new : List Bool) → m ≡ (next - 1) / l * l → m ≤ next - 1 → first ≤ m → least ≡ max first (min next (m + l - n)) → lower ≡ max first (m - n)
       → Sets (is_from instants numbers place least) old mid → Sets (is_between instants numbers place lower (m + 1)) mid new → Sets (needs (RangeSlide n l)) old new
   slide_needed n l m least lower mid new e u f el ew s t =

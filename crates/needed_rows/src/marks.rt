@@ -10,7 +10,7 @@ use crate::last_rows::mark_last;
 use crate::reader::{ClosedRows, Reader};
 use crate::runs::{first_place, mark_between, mark_from};
 use std::alloc::{AllocError, Global};
-use values::Window;
+use values::{Step, Window};
 
 /// Returns for each closed row whether some reader needs it.
 ///
@@ -92,25 +92,14 @@ fn mark_range(rows: &ClosedRows, reader: &Reader, span: u64, kept: &mut [bool])
 /// Marks what a window needs that moves only at multiples of its step. It needs what it shows at
 /// the multiple up to the mark, and what it will show at the next one. The next one shows the most
 /// of all later ones. If the step is longer than the span, there is a gap between the two.
-fn mark_slide(rows: &ClosedRows, reader: &Reader, span: u64, step: u64, kept: &mut [bool])
+fn mark_slide(rows: &ClosedRows, reader: &Reader, span: u64, step: Step, kept: &mut [bool])
     requires order { AreInOrder rows.now }
     requires marks { length kept.old ≡ length rows.now.instants.now }
     ensures { Sets (needs_at rows.now (with_window reader.now (RangeSlide span step)))
         kept.old kept.new }
 {
-    // no window moves by 0; one that did would show all at the multiple 0
-    if step == 0 {
-        mark_from(
-            rows.instants,
-            rows.numbers,
-            reader.place,
-            reader.first,
-            kept,
-        );
-        return;
-    }
-    let multiple = multiple_up_to(reader.next.saturating_sub(1), step);
-    let least = reader.next.min(least_at_next(multiple, span, step));
+    let multiple = multiple_up_to(reader.next.saturating_sub(1), step.get());
+    let least = reader.next.min(least_at_next(multiple, span, step.get()));
     mark_from(
         rows.instants,
         rows.numbers,

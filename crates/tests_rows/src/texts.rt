@@ -74,7 +74,8 @@ fn add_window(text: &mut String, window: &WrittenWindow) -> Result<(), AllocErro
         WrittenWindow::Range(instants) => write!(text, "[Range {instants}]"),
         WrittenWindow::RangeSlide(instants, step) => write!(
             text,
-            "[Range {instants} Slide {step}]"
+            "[Range {instants} Slide {}]",
+            step.get()
         ),
         WrittenWindow::Unbounded => text.push_str("[Range Unbounded]"),
         WrittenWindow::Rows(rows) => write!(text, "[Rows {rows}]"),

@@ -1,11 +1,11 @@
 //! Tests the closed rows that the sources of queries need.
-ghost use Rattle.std.specs.Prelude.{IsTrue};
+ghost use Rattle.std.specs.Prelude.{IsTrue, ◌<◌};
 ghost use Rattle.needed_rows.specs.Needed.{AreInOrder};
 
 use needed_rows::{ClosedRows, Reader, needed};
 use std::alloc::{AllocError, Global};
 use std::test::Fail;
-use values::{Value, Window};
+use values::{Step, Value, Window};
 
 // A window, and its query's place, first instant and the instant after its mark.
 type Asked = (Window, u64, u64, u64);
@@ -111,23 +111,30 @@ fn marks_are_kept(alloc: Global) -> Result<[bool; 4], AllocError> {
     ])
 }
 
+// Returns a window of so many instants that slides by this step, 1 or more.
+fn slide(span: u64, step: u64) -> Window
+    requires { 0 < step }
+{
+    Window::RangeSlide(span, Step::new(step))
+}
+
 // Tries slides. At the instant 9 the window shows what it showed at 8, and then moves at 12.
 fn slides_are_kept(alloc: Global) -> Result<[bool; 5], AllocError> {
     let rows = ten_rows();
     Ok([
-        keeps(alloc, &rows, (Window::RangeSlide(1, 4), 0, 0, 10), &[7, 8])?,
+        keeps(alloc, &rows, (slide(1, 4), 0, 0, 10), &[7, 8])?,
         keeps(
             alloc,
             &rows,
-            (Window::RangeSlide(5, 4), 0, 0, 10),
+            (slide(5, 4), 0, 0, 10),
             &[3, 4, 5, 6, 7, 8, 9],
         )?,
-        keeps(alloc, &rows, (Window::RangeSlide(1, 4), 0, 9, 10), &[])?,
-        keeps(alloc, &rows, (Window::RangeSlide(3, 4), 8, 0, 10), &[8, 9])?,
+        keeps(alloc, &rows, (slide(1, 4), 0, 9, 10), &[])?,
+        keeps(alloc, &rows, (slide(3, 4), 8, 0, 10), &[8, 9])?,
         keeps(
             alloc,
             &rows,
-            (Window::RangeSlide(1, 4), 0, 0, 7),
+            (slide(1, 4), 0, 0, 7),
             &[3, 4, 7, 8, 9],
         )?,
     ])
@@ -193,12 +200,12 @@ fn windows_of_last_rows_keep_those_of_each_partition(rt: HostRuntime) -> Result<
 // Tries what two sources over one stream keep, and what each keeps.
 fn two_are_kept(alloc: Global) -> Result<[bool; 3], AllocError> {
     let rows = ten_rows();
-    let (slide, range) = (Window::RangeSlide(1, 4), Window::Range(0));
+    let (sliding, range) = (slide(1, 4), Window::Range(0));
     let first = Reader {
         place: 0,
         first: 0,
         next: 10,
-        window: &slide,
+        window: &sliding,
     };
     let second = Reader {
         place: 5,

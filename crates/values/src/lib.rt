@@ -18,12 +18,14 @@ ghost use Rattle.values.specs.Row.{row_cmp, same_row, value_at};
 ghost use Rattle.values.specs.Value.{IsStreamNumber, IsAnswerNumber, clamp_answer};
 
 mod resolved;
+mod step;
 
 use arrayvec::ArrayVec;
 pub use resolved::{
     Aggregate, Compare, Condition, ListItem, Operand, Resolved, Shape, SourceColumn,
     StreamOperator, Window,
 };
+pub use step::Step;
 use std::cmp::Ordering;
 use std::fmt;
 use std::marker::Model;

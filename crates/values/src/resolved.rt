@@ -1,6 +1,8 @@
 //! Holds queries with their names resolved. Sources and columns go by their places, both counted
 //! from 0 in the order of From and of the stream's declaration.
 
+use crate::step::Step;
+
 /// Names a column of a source of the query. Both are counted from 0, in the order of From and of
 /// the stream's declaration.
 #[derive(Clone, Copy, Debug, PartialEq, Eq)]
@@ -45,10 +47,10 @@ pub enum Window {
     /// Shows the rows of this instant and of as many instants before it as the number says: 0 is
     /// Now.
     Range(u64),
-    /// Shows what Range of the first number shows at an earlier instant: the greatest multiple of
-    /// the second number that is at most this instant. The second number is not 0. It shows no rows
-    /// where that multiple is not above the query's base.
-    RangeSlide(u64, u64),
+    /// Shows what Range of the number shows at an earlier instant: the greatest multiple of the
+    /// step that is at most this instant. It shows no rows where that multiple is not above the
+    /// query's base.
+    RangeSlide(u64, Step),
     /// Shows all rows so far.
     Unbounded,
     /// Shows the last rows of each partition, as many as the number says. A partition is the rows

@@ -21,7 +21,8 @@ ghost use Rattle.operators.specs.declared.inboxes.Inbox.TheVariants.{Between};
 use crate::inboxes::Inbox;
 use crate::runs::Refused;
 use crate::states::State;
-use column::Side;
+use column::{Batch, MAX_ROWS, Side, are_rising};
+use row_nodes::kept;
 use op_queue::{Item, Log, Queue};
 use row_bags::DatedRows;
 use std::alloc::{AllocError, Global};
@@ -322,6 +323,139 @@ impl Operator {
             Side::Right => self
                 .state
                 .answer_first(alloc, log, rows, &mut self.right, answers),
+        }
+    }
+
+    /// Returns whether it is a Range over a stream.
+    pub fn is_first_range(&self) -> bool {
+        match (&self.state, &self.left) {
+            (State::Range(_), Inbox::First(_)) => true,
+            _ => false,
+        }
+    }
+
+    /// Returns whether it has one input, which another operator fills.
+    pub fn is_link(&self) -> bool {
+        match (&self.state, &self.left) {
+            (State::Nothing | State::Groups(_) | State::Root(_), Inbox::Between(_)) => true,
+            _ => false,
+        }
+    }
+
+    /// Returns whether it groups.
+    pub fn is_group(&self) -> bool {
+        match &self.state {
+            State::Groups(_) => true,
+            _ => false,
+        }
+    }
+
+    /// Takes what the stream has first.
+    pub fn take_front(
+        &mut self,
+        alloc: Global,
+        log: &Log,
+        rows: usize,
+    ) -> Result<Item, AllocError> {
+        match &mut self.left {
+            Inbox::First(cursor) => cursor.take(alloc, log, rows),
+            Inbox::Between(queue) => queue.take(alloc, rows),
+        }
+    }
+
+    /// Takes what waits first in its queue.
+    pub fn take_queued(&mut self, alloc: Global) -> Result<Item, AllocError> {
+        match &mut self.left {
+            Inbox::First(_) => Err(AllocError),
+            Inbox::Between(queue) => queue.take(alloc, MAX_ROWS),
+        }
+    }
+
+    /// Returns whether something waits in its queue.
+    pub fn has_waiting(&self) -> bool {
+        match &self.left {
+            Inbox::First(_) => false,
+            Inbox::Between(queue) => !queue.is_empty(),
+        }
+    }
+
+    /// Takes rows of an instant into the window.
+    pub fn enter_rows(&mut self, at: u64, batch: &Batch) -> Result<(), AllocError> {
+        match &mut self.state {
+            State::Range(window) => window.enter_rows(at, batch),
+            _ => Ok(()),
+        }
+    }
+
+    /// Returns how many rows leave the window at the tick of an instant.
+    pub fn past(&self, at: u64) -> usize {
+        match &self.state {
+            State::Range(window) => window.past(at),
+            _ => 0,
+        }
+    }
+
+    /// Copies rows of the window as rows that leave.
+    pub fn leaving(&self, alloc: Global, from: usize, count: usize) -> Result<Batch, AllocError> {
+        match &self.state {
+            State::Range(window) => window.leaving(alloc, from, count),
+            _ => Err(AllocError),
+        }
+    }
+
+    /// Drops the first rows of the window.
+    pub fn leave_first(&mut self, count: usize) {
+        match &mut self.state {
+            State::Range(window) => window.leave_first(count),
+            _ => {}
+        }
+    }
+
+    /// Takes rows, and returns those that it passes on.
+    pub fn pass_batch(&mut self, alloc: Global, batch: Batch) -> Result<Option<Batch>, AllocError> {
+        match (&mut self.state, &*self.kind) {
+            (State::Nothing, Kind::Select(steps)) => {
+                let mask = kept(alloc, &steps.steps, &batch)?;
+                Ok(batch.kept(&mask))
+            }
+            (State::Nothing, Kind::Project(columns)) => {
+                let places = columns.columns();
+                if are_rising(places) {
+                    return Ok(Some(batch.narrowed(places)));
+                }
+                let rows = batch.projected(alloc, places)?;
+                Ok(Some(rows))
+            }
+            (State::Groups(groups), _) => match groups.run_rows(&batch) {
+                Ok(()) => Ok(None),
+                Err(_) => Err(AllocError),
+            },
+            (State::Root(root), _) => match root.run_rows(&batch) {
+                Ok(()) => Ok(None),
+                Err(_) => Err(AllocError),
+            },
+            _ => Err(AllocError),
+        }
+    }
+
+    /// Takes a tick of groups, which pass on to the operator above.
+    pub fn tick_groups(
+        &mut self,
+        alloc: Global,
+        at: u64,
+        to: &mut Operator,
+    ) -> Result<(), AllocError> {
+        match (&mut self.state, &mut to.left) {
+            (State::Groups(groups), Inbox::Between(queue)) => groups.run_tick(alloc, at, queue),
+            _ => Ok(()),
+        }
+    }
+
+    /// Takes a tick of the root.
+    pub fn tick_root(&mut self, at: u64, answers: &mut DatedRows) -> Result<(), AllocError> {
+        match &mut self.state {
+            State::Root(root) => root.run_tick(at, answers),
+            _ => Ok(()),
         }
     }
 

@@ -10,7 +10,8 @@ ghost use Rattle.query_runtime.specs.Runs.{OnlyAtBoth};
 ghost use Rattle.query_runtime.specs.Turns.{CanFinish, CanLease, IsLeased, OnlyAt};
 
 use crate::waiting::WaitingAnswers;
-use column::{MAX_ROWS, Side};
+use column::{Batch, MAX_ROWS, Side};
+use row_bags::DatedRows;
 use op_queue::{Item, Log};
 use operators::{Operator, Refused};
 use physical_plans::Wire;
@@ -114,6 +115,116 @@ fn pass_at(operators: &mut Vec<Operator>, number: usize, until: u64)
     ensures only { OnlyAt number operators.old.items operators.new.items }
 {
     operators[number].pass(until);
+}
+
+/// Returns whether the operators are a Range over a stream and links, one after the other.
+pub(crate) fn are_chain(operators: &[Operator], wires: &[Wire]) -> bool {
+    if !operators[0].is_first_range() {
+        return false;
+    }
+    for number in 1..operators.len() {
+        if !operators[number].is_link() {
+            return false;
+        }
+        if wires[number - 1].to != number {
+            return false;
+        }
+    }
+    true
+}
+
+/// Takes rows through the operators from a number on.
+pub(crate) fn pass_rows(
+    operators: &mut Vec<Operator>,
+    alloc: Global,
+    first: usize,
+    batch: Batch,
+) -> Result<(), AllocError> {
+    let mut rows = batch;
+    for number in first..operators.len() {
+        match operators[number].pass_batch(alloc, rows)? {
+            Some(more) => rows = more,
+            None => return Ok(()),
+        }
+    }
+    Ok(())
+}
+
+/// Takes the tick of an instant through the operators above the first.
+pub(crate) fn pass_tick(
+    operators: &mut Vec<Operator>,
+    alloc: Global,
+    at: u64,
+    answers: &mut DatedRows,
+) -> Result<(), AllocError> {
+    for number in 1..operators.len() {
+        if operators[number].is_group() {
+            tick_groups(operators, alloc, number, at)?;
+        } else if operators[number].is_root() {
+            operators[number].tick_root(at, answers)?;
+        }
+    }
+    Ok(())
+}
+
+/// Takes the tick of groups, and the rows that they emit through the operators above.
+fn tick_groups(
+    operators: &mut Vec<Operator>,
+    alloc: Global,
+    number: usize,
+    at: u64,
+) -> Result<(), AllocError> {
+    let (below, above) = operators.split_at_mut(number + 1);
+    below[number].tick_groups(alloc, at, &mut above[0])?;
+    while operators[number + 1].has_waiting() {
+        take_waiting(operators, alloc, number + 1)?;
+    }
+    Ok(())
+}
+
+/// Takes what waits first for an operator through those from it on; drops a tick.
+fn take_waiting(
+    operators: &mut Vec<Operator>,
+    alloc: Global,
+    number: usize,
+) -> Result<(), AllocError> {
+    match operators[number].take_queued(alloc)? {
+        Item::Rows(_, batch) => pass_rows(operators, alloc, number, batch),
+        Item::Tick(_) => Ok(()),
+    }
+}
+
+/// Takes what the stream has of one instant through all operators. Returns how many items.
+pub(crate) fn run_chain(
+    operators: &mut Vec<Operator>,
+    alloc: Global,
+    log: &Log,
+    rows: usize,
+    answers: &mut DatedRows,
+) -> Result<u64, AllocError> {
+    let mut turns: u64 = 0;
+    'items: loop {
+        turns += 1;
+        match operators[0].take_front(alloc, log, within_a_batch(rows))? {
+            Item::Rows(at, batch) => {
+                operators[0].enter_rows(at, &batch)?;
+                pass_rows(operators, alloc, 1, batch)?;
+            }
+            Item::Tick(at) => {
+                let count = operators[0].past(at);
+                let mut done = 0;
+                while done < count {
+                    let more = MAX_ROWS.min(count - done);
+                    let batch = operators[0].leaving(alloc, done, more)?;
+                    pass_rows(operators, alloc, 1, batch)?;
+                    done += more;
+                }
+                operators[0].leave_first(count);
+                pass_tick(operators, alloc, at, answers)?;
+                return Ok(turns);
+            }
+        }
+    }
 }
 
 /// Runs a turn of the operator of a number. Its outputs go where the wire leads, to an operator

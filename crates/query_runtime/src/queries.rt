@@ -22,7 +22,7 @@ ghost use Rattle.query_runtime.specs.Turns.{IsBeginning, IsLeased, handed_out, l
 ghost use Rattle.query_runtime.specs.Turns.{taken, wire_at};
 
 use crate::moves::{
-    feed_at, finish_at, leased, log_at, pass_all, run_below_at, run_root_at, within_a_batch,
+    are_chain, feed_at, finish_at, run_chain, leased, log_at, pass_all, run_below_at, run_root_at, within_a_batch,
 };
 use crate::sources::sources_of;
 use crate::waiting::WaitingAnswers;
@@ -52,6 +52,8 @@ pub struct RunningQuery {
     sources: Vec<u64>,
     /// Holds the answers of the root that wait to be taken.
     answers: WaitingAnswers,
+    /// Says whether it is a Range over a stream and links.
+    is_chain: bool,
 }
 
 impl Model for RunningQuery {
@@ -90,12 +92,40 @@ impl RunningQuery {
             IsBeginning plan.now.meaning.windows.items plan.now.widths.items streams.now places.now
             start plan.now.nodes.items query) }
     {
+        let operators = operators_of(alloc, plan, places, start)?;
+        let wires = wires(alloc, &plan.nodes)?;
+        let is_chain = are_chain(&operators, &wires);
         Ok(RunningQuery {
-            operators: operators_of(alloc, plan, places, start)?,
-            wires: wires(alloc, &plan.nodes)?,
+            operators,
+            wires,
             sources: sources_of(alloc, streams, &plan.nodes)?,
             answers: WaitingAnswers::new(alloc),
+            is_chain,
         })
+    }
+
+    /// Returns whether it is a chain with nothing between its operators.
+    pub fn is_clear_chain(&self) -> bool {
+        if !self.is_chain {
+            return false;
+        }
+        for number in 1..self.operators.len() {
+            if self.operators[number].has_waiting() {
+                return false;
+            }
+        }
+        true
+    }
+
+    /// Takes what the stream has of one instant through all operators. Returns how many items.
+    pub fn run_instant(
+        &mut self,
+        alloc: Global,
+        streams: &Streams,
+        rows: usize,
+    ) -> Result<u64, AllocError> {
+        let log = self.log(streams, 0);
+        run_chain(&mut self.operators, alloc, log, rows, self.answers.rows())
     }
 
     /// Returns the number of its operators.

@@ -54,6 +54,11 @@ impl WaitingAnswers {
         })
     }
 
+    /// Lends the answers.
+    pub(crate) fn rows(&mut self) -> &mut DatedRows {
+        &mut self.answers
+    }
+
     /// Counts the answers.
     pub fn len(&self) -> usize
         ensures { result ≡ length self.now }

@@ -12,4 +12,4 @@ mod selection;
 pub use laws::{project_keeps_its_value, select_keeps_its_value};
 pub use postfix::steps;
 pub use projection::{project, project_front, run_project};
-pub use selection::{run_select, select, select_front};
+pub use selection::{run_select, select, kept, select_front};

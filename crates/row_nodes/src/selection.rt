@@ -141,7 +141,7 @@ fn select_whole(
 }
 
 /// Returns which rows are kept.
-fn kept(alloc: Global, steps: &[Step], batch: &Batch) -> Result<Mask, AllocError>
+pub fn kept(alloc: Global, steps: &[Step], batch: &Batch) -> Result<Mask, AllocError>
     requires { StepsFit (width batch.now) 0 steps.now }
     ensures { IfOk result (λ m. m ≡ map (is_kept steps.now) batch.now) }
 {

@@ -157,6 +157,9 @@ fn run_alone(
     let mut turns = 0;
     let mut next: Option<Slot> = None;
     let mut settled = true;
+    if query.is_clear_chain() {
+        return run_instants(query, streams, alloc, quota);
+    }
     'turns: while turns < quota.turns {
         let Some(slot) = next_ready(query, streams, registration, &next) else {
             return Ran {
@@ -181,6 +184,44 @@ fn run_alone(
         }
         next = next_above(query, streams, registration, &slot);
         settled = query.len() <= slot.operator().saturating_add(1);
+    }
+    Ran {
+        turns,
+        stopped: false,
+    }
+}
+
+/// Runs a chain instant by instant, over gaps.
+fn run_instants(
+    query: &mut RunningQuery,
+    streams: &Streams,
+    alloc: Global,
+    quota: Quota,
+) -> Ran {
+    let mut turns = 0;
+    'instants: while turns < quota.turns {
+        let Some((_, start)) = query.ready(streams, 0) else {
+            return Ran {
+                turns,
+                stopped: false,
+            };
+        };
+        let least = start.saturating_add(FEW_INSTANTS);
+        let until = query.quiet_until(streams, 0, start, least);
+        if until >= least && until > start {
+            query.pass(until);
+            turns += 1;
+            continue;
+        }
+        match query.run_instant(alloc, streams, quota.rows) {
+            Ok(more) => turns += more,
+            Err(_) => {
+                return Ran {
+                    turns,
+                    stopped: true,
+                };
+            }
+        }
     }
     Ran {
         turns,

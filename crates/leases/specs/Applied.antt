@@ -1,6 +1,7 @@
 -- A turn that comes back, step by step.
 use Rattle.std.specs.Prelude.{ℕ, ⊤, ◌≡◌, ◌≢◌, ◌+◌, ◌<◌, ◌≤◌, ◌==◌, not, filter, MatchOption, Option}
-use Rattle.std.specs.Prelude.{Some, List, length, set}
+use Rattle.std.specs.Prelude.{Some, List, [], ◌∷◌, length, set}
+use Rattle.std.specs.List.{AllByRecursion}
 use Rattle.turn.specs.Turns.{outs_in}
 use Rattle.turn.specs.declared.parts.Parts.{Parts}
 use Rattle.turn.specs.declared.turns.Turn.{Turn}

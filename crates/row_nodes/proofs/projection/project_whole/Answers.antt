@@ -6,6 +6,12 @@ use Rattle.op_queue.proofs.GainLemmas.{gained-item, gained-same}
 use Rattle.row_nodes.proofs.FrontLemmas.{batch_left}
 use Rattle.row_nodes.proofs.projection.project_whole.Goals as goal
 
+pub move_columns-requires-clause-within : goal.move_columns-requires-clause-within
+move_columns-requires-clause-within c = λ t b h. c.requires.within (Rows t b) h.part
+
+pub move_columns-requires-clause-forward : goal.move_columns-requires-clause-forward
+move_columns-requires-clause-forward c = λ t b h. c.requires.forward (Rows t b) h.part
+
 pub project-requires-clause-within : goal.project-requires-clause-within
 project-requires-clause-within c = c.requires.within (Rows c.in-Some.at c.in-Some.batch.now) c.in-Some.ensures.part
 

@@ -6,3 +6,4 @@ pub mod KeptLemmas
 pub mod StrideLemmas
 pub mod MovedLemmas
 pub mod FlatLemmas
+pub mod GatherLemmas

@@ -102,6 +102,11 @@ column_made (v ∷ vs) a =
     let rest = column_made vs (All-tail IsAnswerValue v vs a) in
     record { column = (cell_of v (if_answer v (All-head IsAnswerValue v vs a)), rest.column); seen = λ t. value_back v t ∷ rest.seen t }
 
+-- the values of a stride became a column, all in one word
+pub word_made : (values : List (Option ℤ)) (start stride count : ℕ) (numbers : List ℤ) (valid : List Bool) → numbers ≡ numbers_of (values_by start stride count values) → valid ≡ map is_some (values_by start stride count values)
+    → All IsAnswerValue (values_by start stride count values) → IsMade numbers valid (values_by start stride count values)
+word_made values start stride count numbers valid are are_valid range = rw (are, are_valid) (column_made (values_by start stride count values) range)
+
 -- the first values of a stride became a column, whole words of them
 pub record IsStrided (values : List (Option ℤ)) (start stride count from : ℕ) (numbers : List ℤ) (valid : List Bool) : Type 0 where
   pub le : from ≤ count

@@ -1,5 +1,5 @@
 -- Batches: signed rows laid out in columns.
-use Rattle.std.specs.Prelude.{ℕ, ℤ, Bool, false, not, Option, None, List, [], ◌∷◌, ◌++◌, ◌≡◌, ◌≤◌}
+use Rattle.std.specs.Prelude.{ℕ, ℤ, Bool, false, not, Option, None, List, [], ◌∷◌, ◌++◌, ◌≡◌, ◌≤◌, ◌<◌}
 use Rattle.std.specs.Prelude.{map, length, get_or, take, drop, All}
 use Rattle.std.specs.List.{range_with_len}
 use Rattle.values.specs.declared.TheConstants.{MAX_COLUMNS}
@@ -33,6 +33,10 @@ column_of rows k = map (λ r. value_at r.1 k) rows
 -- every row has this many values
 abbrev pub IsTable : ℕ → List (Bool × Row) → Type 0
 IsTable n rows = All (λ r. length r.1 ≡ n) rows
+
+-- each place is below those that follow it
+abbrev pub AreRising : List ℕ → Type 0
+AreRising places = (i j : ℕ) → i < j → j < length places → get_or places i 0 < get_or places j 0
 
 -- rows whose values stand one behind the other: each takes
 -- the next w of them, and leaves where its truth says so

@@ -86,6 +86,31 @@ impl Column {
         ensures { IfOk result (λ c.
             c ≡ at_places None (places_by start stride count) values.now) }
     {
+        if count == 0 {
+            return Ok(Column::new(alloc));
+        }
+        if count > 64 {
+            return Column::strided_by_words(alloc, values, start, stride, count);
+        }
+        let mut numbers = Vec::with_capacity(alloc, count)?;
+        let word = push_cells(&mut numbers, values, start, stride, count);
+        let valid = Mask::from_words(alloc, &[word], count)?;
+        Ok(Column { numbers, valid })
+    }
+
+    /// Does what `strided` does, for any number of words.
+    fn strided_by_words(
+        alloc: Global,
+        values: &[Value],
+        start: usize,
+        stride: usize,
+        count: usize,
+    ) -> Result<Column, AllocError>
+        requires few { count ≤ MAX_ROWS }
+        requires within { (i : ℕ) → i < count → start + i * stride < length values.now }
+        ensures { IfOk result (λ c.
+            c ≡ at_places None (places_by start stride count) values.now) }
+    {
         let mut numbers = Vec::with_capacity(alloc, count)?;
         let mut valid = Mask::with_capacity(alloc, count)?;
         let mut from = 0;

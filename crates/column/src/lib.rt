@@ -10,7 +10,7 @@ mod column;
 mod mask;
 mod words;
 
-pub use batch::{Batch, Side, SignedRow};
+pub use batch::{Batch, Side, SignedRow, are_rising};
 pub use column::Column;
 pub use mask::Mask;
 

@@ -75,6 +75,20 @@ impl Mask {
         requires { count ≤ MAX_ROWS }
         ensures { IfOk result (λ m. m ≡ replicate count truth) }
     {
+        if count == 0 {
+            return Mask::with_capacity(alloc, 0);
+        }
+        if count > 64 {
+            return Mask::filled_by_words(alloc, truth, count);
+        }
+        Mask::from_words(alloc, &[all_bits(truth, count)], count)
+    }
+
+    /// Does what `filled` does, for any number of words.
+    fn filled_by_words(alloc: Global, truth: bool, count: usize) -> Result<Mask, AllocError>
+        requires { count ≤ MAX_ROWS }
+        ensures { IfOk result (λ m. m ≡ replicate count truth) }
+    {
         let mut mask = Mask::with_capacity(alloc, count)?;
         let mut from = 0;
         while from < count {

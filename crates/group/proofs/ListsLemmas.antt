@@ -58,6 +58,15 @@ joined-push {X} es xs ls l is few = record {
   narrow = All-append (λ (m : List X). length m ≤ MAX_COLUMNS) ls (l ∷ []) is.narrow (one (λ (m : List X). length m ≤ MAX_COLUMNS) l few);
 }
 
+-- what the lists are after one more
+pub pushed-list : {X : Type 0} (es fs : List ℕ) (xs ys : List X) (now : List (List X)) (l : List X) (end : ℕ) → IsJoined es xs (cut 0 es xs) → cut 0 es xs ≡ now → length l ≤ MAX_COLUMNS → ys ≡ xs ++ l → end ≡ length ys → fs ≡ es ++ end ∷ []
+    → IsJoined fs ys (now ++ l ∷ [])
+pushed-list {X} es fs xs ys now l end was view few holds ends is =
+    let more : IsJoined (es ++ length (xs ++ l) ∷ []) (xs ++ l) (now ++ l ∷ []) = joined-push es xs now l (subst (IsJoined es xs) view was) few in
+    let longer : fs ≡ es ++ length (xs ++ l) ∷ [] = is ∙ ap (λ (k : ℕ). es ++ k ∷ []) (ends ∙ ap (λ (zs : List X). length zs) holds) in
+    subst (λ (gs : List ℕ). IsJoined gs ys (now ++ l ∷ [])) (sym longer)
+    (subst (λ (zs : List X). IsJoined (es ++ length (xs ++ l) ∷ []) zs (now ++ l ∷ [])) (sym holds) more)
+
 -- A LIST AT ITS PLACE
 length-ends : {X : Type 0} (n : ℕ) (ls : List (List X)) → length (ends_of n ls) ≡ length ls
 length-ends n [] = refl
@@ -112,6 +121,11 @@ list-at {X} es xs now k was view lt =
       list = sym (cut-at 0 es xs k ended) ∙ ap (λ (ls : List (List X)). get_or ls k []) view;
       few = is.narrow k [] lt;
     }
+
+-- the part of the one list is the list
+pub part-is : {X : Type 0} (es : List ℕ) (xs ys l : List X) (now : List (List X)) (k first last : ℕ) → ListAt es xs now k → first ≡ begin 0 es k → last ≡ get_or es k 0 → ys ≡ xs → l ≡ take (last - first) (drop first ys) → l ≡ get_or now k []
+part-is {X} es xs ys l now k first last at f t is part =
+    part ∙ ap₂ (λ (a b : ℕ). take (b - a) (drop a ys)) f t ∙ ap (λ (zs : List X). take (get_or es k 0 - begin 0 es k) (drop (begin 0 es k) zs)) is ∙ at.list
 
 -- EQUAL LISTS
 pub same-joined : {X : Type 0} (es fs : List ℕ) (xs ys : List X) (ls ms : List (List X)) (r : Bool) → IsJoined es xs ls → IsJoined fs ys ms → Decides r ((es ≡ fs) × (xs ≡ ys)) → Decides r (ls ≡ ms)

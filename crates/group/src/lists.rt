@@ -13,114 +13,40 @@ use std::alloc::{AllocError, Global};
 use std::marker::Model;
 use values::Value;
 
-/// Holds rows of values, joined end to end.
+/// Holds lists of items, joined end to end.
 #[derive(Drop)]
-pub(crate) struct ValueLists {
-    /// Holds for each row the place after its last value.
+pub(crate) struct JoinedLists<T> {
+    /// Holds for each list the place after its last item.
     ends: Vec<usize>,
-    /// Holds the values of the rows.
-    values: Vec<Value>,
+    /// Holds the items of the lists.
+    items: Vec<T>,
 }
 
-impl Model for ValueLists {
-    ghost use Rattle.std.specs.Prelude.{ℤ, Option, List};
-    ghost use Rattle.group.specs.Lists.{IsJoined, cut};
-
-    ghost Value = { List (List (Option ℤ)) };
-
-    ghost view = { λ l. cut 0 l.ends.items l.values.items };
-
-    ghost invariant = { λ l. IsJoined l.ends.items l.values.items
-        (cut 0 l.ends.items l.values.items) };
-}
-
-impl ValueLists {
-    /// Makes a list of no rows. Takes no memory.
-    pub(crate) fn new(alloc: Global) -> ValueLists
-        ensures { result ≡ [] }
-    {
-        ValueLists {
-            ends: Vec::new(alloc),
-            values: Vec::new(alloc),
-        }
-    }
-
-    /// Returns the number of rows.
-    pub(crate) fn len(&self) -> usize
-        ensures { result ≡ length self.now }
-    {
-        self.ends.len()
-    }
-
-    /// Appends a row.
-    ///
-    /// # Errors
-    /// `AllocError` when out of memory; then the rows stay as they were.
-    pub(crate) fn push(&mut self, row: &[Value]) -> Result<(), AllocError>
-        requires { length row.now ≤ MAX_COLUMNS }
-        ensures pushed { OnOk result (self.new ≡ self.old ++ row.now ∷ []) }
-        ensures kept { OnErr result (self.new ≡ self.old) }
-    {
-        self.ends.reserve(1)?;
-        self.values.extend_from_slice(row)?;
-        self.ends.push_reserved(self.values.len());
-        Ok(())
-    }
-
-    /// Returns the row at a place.
-    pub(crate) fn get(&self, place: usize) -> &[Value]
-        requires { place < length self.now }
-        ensures value { result.now ≡ get_or self.now place [] }
-        ensures few { length result.now ≤ MAX_COLUMNS }
-    {
-        let _ = self.len(); // for the proof
-        let begin = begin_of(&self.ends, place);
-        part(&self.values, begin, self.ends[place])
-    }
-
-    /// Returns whether the rows are the same, in the same order.
-    pub(crate) fn is_same(&self, other: &ValueLists) -> bool
-        ensures { IsTrue result ↔ (self.now ≡ other.now) }
-    {
-        self.ends == other.ends && self.values == other.values
-    }
-}
-
-/// Holds lists of figures, joined end to end.
-#[derive(Drop)]
-pub(crate) struct FigureLists {
-    /// Holds for each list the place after its last figure.
-    ends: Vec<usize>,
-    /// Holds the figures of the lists.
-    figures: Vec<Figure>,
-}
-
-impl Model for FigureLists {
+impl<T> Model for JoinedLists<T> {
     ghost use Rattle.std.specs.Prelude.{List};
     ghost use Rattle.group.specs.Lists.{IsJoined, cut};
-    ghost use Rattle.group.specs.declared.cells.Figure.{Figure};
 
-    ghost Value = { List (List Figure) };
+    ghost Value = { List (List T) };
 
-    ghost view = { λ l. cut 0 l.ends.items l.figures.items };
+    ghost view = { λ l. cut 0 l.ends.items l.items.items };
 
-    ghost invariant = { λ l. IsJoined l.ends.items l.figures.items
-        (cut 0 l.ends.items l.figures.items) };
+    ghost invariant = { λ l. IsJoined l.ends.items l.items.items
+        (cut 0 l.ends.items l.items.items) };
 }
 
-impl FigureLists {
+impl<T: Copy> JoinedLists<T> {
     /// Makes a list of no lists. Takes no memory.
-    pub(crate) fn new(alloc: Global) -> FigureLists
+    pub(crate) fn new(alloc: Global) -> JoinedLists<T>
         ensures { result ≡ [] }
     {
-        FigureLists {
+        JoinedLists {
             ends: Vec::new(alloc),
-            figures: Vec::new(alloc),
+            items: Vec::new(alloc),
         }
     }
 
     /// Returns the number of lists.
-    fn len(&self) -> usize
+    pub(crate) fn len(&self) -> usize
         ensures { result ≡ length self.now }
     {
         self.ends.len()
@@ -130,33 +56,44 @@ impl FigureLists {
     ///
     /// # Errors
     /// `AllocError` when out of memory; then the lists stay as they were.
-    pub(crate) fn push(&mut self, list: &[Figure]) -> Result<(), AllocError>
+    pub(crate) fn push(&mut self, list: &[T]) -> Result<(), AllocError>
         requires { length list.now ≤ MAX_COLUMNS }
         ensures pushed { OnOk result (self.new ≡ self.old ++ list.now ∷ []) }
         ensures kept { OnErr result (self.new ≡ self.old) }
     {
         self.ends.reserve(1)?;
-        self.figures.extend_from_slice(list)?;
-        self.ends.push_reserved(self.figures.len());
+        self.items.extend_from_slice(list)?;
+        self.ends.push_reserved(self.items.len());
         Ok(())
     }
 
     /// Returns the list at a place.
-    pub(crate) fn get(&self, place: usize) -> &[Figure]
+    pub(crate) fn get(&self, place: usize) -> &[T]
         requires { place < length self.now }
         ensures value { result.now ≡ get_or self.now place [] }
         ensures few { length result.now ≤ MAX_COLUMNS }
     {
         let _ = self.len(); // for the proof
         let begin = begin_of(&self.ends, place);
-        part(&self.figures, begin, self.ends[place])
+        part(&self.items, begin, self.ends[place])
     }
+}
 
-    /// Returns whether the lists are the same, in the same order.
-    pub(crate) fn is_same(&self, other: &FigureLists) -> bool
+impl JoinedLists<Value> {
+    /// Returns whether the rows are the same, in the same order.
+    pub(crate) fn is_same(&self, other: &JoinedLists<Value>) -> bool
         ensures { IsTrue result ↔ (self.now ≡ other.now) }
     {
-        self.ends == other.ends && self.figures == other.figures
+        self.ends == other.ends && self.items == other.items
+    }
+}
+
+impl JoinedLists<Figure> {
+    /// Returns whether the lists are the same, in the same order.
+    pub(crate) fn is_same(&self, others: &JoinedLists<Figure>) -> bool
+        ensures { IsTrue result ↔ (self.now ≡ others.now) }
+    {
+        self.ends == others.ends && self.items == others.items
     }
 }
 
@@ -166,7 +103,7 @@ pub(crate) struct ShownLists {
     /// Says for each row whether it is there.
     there: Vec<bool>,
     /// Holds the rows, without values for those that are missing.
-    rows: ValueLists,
+    rows: JoinedLists<Value>,
 }
 
 impl Model for ShownLists {
@@ -188,7 +125,7 @@ impl ShownLists {
     {
         ShownLists {
             there: Vec::new(alloc),
-            rows: ValueLists::new(alloc),
+            rows: JoinedLists::new(alloc),
         }
     }
 

@@ -5,23 +5,27 @@ ghost use Rattle.std.specs.Option.{is_some, option_map};
 ghost use Rattle.group.specs.Cells.{held};
 ghost use Rattle.values.specs.declared.TheConstants.{MAX_COLUMNS};
 
+use arrayvec::ArrayVec;
 use std::alloc::{AllocError, Global};
 use std::marker::Model;
-use std::{mem, slice};
+use std::mem;
 use values::Value;
 
-/// Holds a row of a single value in place, and any other in memory of its own.
+/// Limits the values of a row that takes no memory.
+const FEW: usize = 3;
+
+/// Holds a row of few values in place, and any other in memory of its own.
 #[derive(Drop)]
 enum RowPlace {
     /// Says that there is no row.
     None,
-    /// Holds the value of the row.
-    One(Value),
+    /// Holds the few values of the row.
+    Few(ArrayVec<Value, FEW>),
     /// Holds the values of the row.
     Many(Vec<Value>),
 }
 
-/// Holds a row that was shown, or none. A row of a single value takes no memory.
+/// Holds a row that was shown, or none. A row of few values takes no memory.
 #[derive(Drop)]
 pub(crate) struct ShownRow {
     /// Holds the row, in place or in memory of its own.
@@ -59,7 +63,7 @@ impl ShownRow {
     {
         match &self.place {
             RowPlace::None => None,
-            RowPlace::One(value) => Some(slice::from_ref(value)),
+            RowPlace::Few(values) => Some(values.as_slice()),
             RowPlace::Many(values) => Some(values),
         }
     }
@@ -70,7 +74,7 @@ impl ShownRow {
     {
         match &self.place {
             RowPlace::None => false,
-            RowPlace::One(_) => true,
+            RowPlace::Few(_) => true,
             RowPlace::Many(_) => true,
         }
     }
@@ -85,7 +89,7 @@ impl ShownRow {
         }
     }
 
-    /// Sets the row to these values. It takes no memory for a single value, or if the room is large
+    /// Sets the row to these values. It takes no memory if they are few, or if the room is large
     /// enough.
     ///
     /// # Errors
@@ -95,15 +99,16 @@ impl ShownRow {
         ensures ok { OnOk result (self.new ≡ Some (held values.now)) }
         ensures err { OnErr result (self.new ≡ None) }
     {
-        if values.len() == 1 {
-            self.place = RowPlace::One(values[0]);
+        let mut few = ArrayVec::new();
+        if few.try_extend_from_slice(values).is_ok() {
+            self.place = RowPlace::Few(few);
             return Ok(());
         }
         self.place = RowPlace::Many(written(self.take_room(alloc), values)?);
         Ok(())
     }
 
-    /// Makes a shown row of these values. It takes no memory for a single value.
+    /// Makes a shown row of these values. It takes no memory if they are few.
     ///
     /// # Errors
     /// `AllocError` when out of memory.

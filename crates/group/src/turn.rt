@@ -18,7 +18,7 @@ ghost use Rattle.op_queue.specs.Flat.{with_signed};
 ghost use Rattle.values.specs.declared.TheConstants.{MAX_COLUMNS};
 
 use crate::cells::{Figure, has_values};
-use crate::lists::{FigureLists, ShownLists, ValueLists};
+use crate::lists::{JoinedLists, ShownLists};
 use crate::shape::GroupBy;
 use op_queue::{Item, SignedRows};
 use std::alloc::{AllocError, Global};
@@ -29,13 +29,13 @@ use values::Value;
 #[derive(Drop)]
 pub(crate) struct Touched {
     /// Holds the groups' keys.
-    keys: ValueLists,
+    keys: JoinedLists<Value>,
     /// Holds the row that each group showed last; missing if it showed none yet.
     shown: ShownLists,
     /// Counts the rows of each group.
     rows: Vec<i64>,
     /// Holds each group's exact figures, one for each item of the list, in order.
-    figures: FigureLists,
+    figures: JoinedLists<Figure>,
 }
 
 impl Touched {
@@ -44,10 +44,10 @@ impl Touched {
         ensures { HasTouched result [] }
     {
         Touched {
-            keys: ValueLists::new(alloc),
+            keys: JoinedLists::new(alloc),
             shown: ShownLists::new(alloc),
             rows: Vec::new(alloc),
-            figures: FigureLists::new(alloc),
+            figures: JoinedLists::new(alloc),
         }
     }
 
@@ -179,7 +179,7 @@ impl GroupExcerpt {
 #[derive(Drop)]
 pub struct GroupChange {
     /// Holds the groups' keys, in order.
-    keys: ValueLists,
+    keys: JoinedLists<Value>,
     /// Holds the row of each group; missing if the group shows none and is dropped.
     rows: ShownLists,
 }
@@ -197,7 +197,7 @@ impl Model for GroupChange {
 }
 
 impl GroupChange {
-    fn new(keys: ValueLists, rows: ShownLists) -> GroupChange
+    fn new(keys: JoinedLists<Value>, rows: ShownLists) -> GroupChange
         requires { ListShown keys rows (shown_of keys rows) }
         ensures { result ≡ shown_of keys rows }
     {
@@ -324,7 +324,7 @@ fn change_at(
     near: &GroupExcerpt,
     place: usize,
     spare: &mut Vec<Value>,
-    keys: &mut ValueLists,
+    keys: &mut JoinedLists<Value>,
     shown: &mut ShownLists,
     rows: &mut SignedRows,
 ) -> Result<(), AllocError>
@@ -357,7 +357,7 @@ fn changes(
     ensures change { IfOk result (λ c. c ≡ map (shown_now group.now) near.now) }
 {
     let mut spare = Vec::new(alloc);
-    let mut keys = ValueLists::new(alloc);
+    let mut keys = JoinedLists::new(alloc);
     let mut shown = ShownLists::new(alloc);
     for place in 0..near.len() {
         change_at(group, near, place, &mut spare, &mut keys, &mut shown, rows)?;
@@ -387,7 +387,7 @@ fn nothing(alloc: Global) -> (Vec<Item>, GroupChange)
     ensures outputs { result.0.items ≡ [] }
     ensures change { result.1 ≡ [] }
 {
-    let change = GroupChange::new(ValueLists::new(alloc), ShownLists::new(alloc));
+    let change = GroupChange::new(JoinedLists::new(alloc), ShownLists::new(alloc));
     (Vec::new(alloc), change)
 }
 

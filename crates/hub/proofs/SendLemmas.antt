@@ -29,9 +29,10 @@ use Rattle.turn.specs.contracts.kinds.Kind as kind
 use Rattle.row_bags.specs.contracts.row_bag.RowBag as row_bag
 use Rattle.row_bags.specs.contracts.row_list.RowList as row_list
 use Rattle.row_bags.specs.contracts.delta.Delta as delta
-use Rattle.windows.specs.contracts.range.RangeWindow as range
-use Rattle.windows.specs.contracts.slide.SlideWindow as slide
-use Rattle.windows.specs.contracts.slide.SlideExcerpt as sliding
+use Rattle.windows.specs.contracts.window.Window as window
+use Rattle.windows.specs.contracts.window.WindowExcerpt as window_excerpt
+use Rattle.windows.specs.contracts.instants.InstantWindow as instants
+use Rattle.windows.specs.contracts.instants.InstantExcerpt as instant_excerpt
 use Rattle.windows.specs.contracts.latest.LatestWindow as latest
 use Rattle.windows.specs.contracts.flat_rows.FlatRows as flat_rows
 use Rattle.windows.specs.contracts.row_table.RowTable as row_table
@@ -47,8 +48,6 @@ use Rattle.group.specs.contracts.slot_list.GroupSlot as group_slot
 use Rattle.group.specs.contracts.slot_list.SlotList as slot_list
 use Rattle.group.specs.contracts.slots.Slots as slots
 use Rattle.group.specs.contracts.keyed.Keyed as keyed
-use Rattle.group.specs.contracts.lists.ValueLists as value_lists
-use Rattle.group.specs.contracts.lists.FigureLists as figure_lists
 use Rattle.group.specs.contracts.lists.ShownLists as shown_lists
 use Rattle.group.specs.contracts.turn.GroupExcerpt as touched
 use Rattle.to_stream.specs.contracts.RootExcerpt as lists
@@ -143,14 +142,14 @@ delta_send = search (sendable, crosses, value_send) depth 30
 pub flat_rows_send : IsSend flat_rows.the_row
 flat_rows_send = search (sendable, crosses, value_send) depth 30
 
-pub range_send : IsSend range.the_row
-range_send = search (sendable, crosses, flat_rows_send) depth 30
-
-pub slide_send : IsSend slide.the_row
-slide_send = search (sendable, crosses, flat_rows_send) depth 30
+pub instants_send : IsSend instants.the_row
+instants_send = search (sendable, crosses, flat_rows_send) depth 40
 
 pub latest_send : IsSend latest.the_row
 latest_send = search (sendable, crosses, maps.crosses, value_send, flat_rows_send) depth 40 fits 100000
+
+pub window_send : IsSend window.the_row
+window_send = search (sendable, crosses, instants_send, latest_send) depth 30
 
 pub join_send : IsSend join.the_row
 join_send = search (sendable, crosses, row_bag_send) depth 40
@@ -190,7 +189,7 @@ pub inbox_send : IsSend inbox.the_row
 inbox_send = search (sendable, waiting_send) depth 20
 
 pub state_send : IsSend state.the_row
-state_send = search (sendable, range_send, slide_send, latest_send, join_send, group_send, to_stream_send) depth 20
+state_send = search (sendable, window_send, join_send, group_send, to_stream_send) depth 20
 
 pub kind_send : IsSend kind.the_row
 kind_send = search (sendable, crosses, group_by_send) depth 30
@@ -222,26 +221,23 @@ streams_send = search (sendable, crosses, stored_send, names_send) depth 30
 pub row_table_send : IsSend row_table.the_row
 row_table_send = search (sendable, crosses, value_send) depth 30
 
-pub sliding_send : IsSend sliding.the_row
-sliding_send = search (sendable, crosses, row_table_send) depth 40
+pub instant_excerpt_send : IsSend instant_excerpt.the_row
+instant_excerpt_send = search (sendable, crosses, row_table_send) depth 40
 
 pub fallen_rows_send : IsSend fallen_rows.the_row
 fallen_rows_send = search (sendable, crosses, row_table_send) depth 40
 
+pub window_excerpt_send : IsSend window_excerpt.the_row
+window_excerpt_send = search (sendable, crosses, instant_excerpt_send, fallen_rows_send) depth 40
+
 pub matches_send : IsSend matches.the_row
-matches_send = search (sendable, crosses, value_send) depth 30
-
-pub value_lists_send : IsSend value_lists.the_row
-value_lists_send = search (sendable, crosses, value_send) depth 30
-
-pub figure_lists_send : IsSend figure_lists.the_row
-figure_lists_send = search (sendable, crosses, value_send) depth 40
+matches_send = search (sendable, crosses, value_send) depth 40
 
 pub shown_lists_send : IsSend shown_lists.the_row
-shown_lists_send = search (sendable, crosses, value_lists_send) depth 30
+shown_lists_send = search (sendable, crosses, value_send) depth 40
 
 pub touched_send : IsSend touched.the_row
-touched_send = search (sendable, crosses, value_lists_send, figure_lists_send, shown_lists_send) depth 40
+touched_send = search (sendable, crosses, value_send, shown_lists_send) depth 40 fits 100000
 
 pub lists_send : IsSend lists.the_row
 lists_send = search (sendable, crosses, delta_send, row_list_send) depth 30
@@ -250,7 +246,7 @@ lists_sync : IsSync lists.the_row
 lists_sync = search (sendable, crosses) depth 40 fits 100000
 
 pub near_send : IsSend near.the_row
-near_send = search (sendable, crosses, lists_send, row_table_send, sliding_send, fallen_rows_send, matches_send, touched_send) depth 40 fits 100000
+near_send = search (sendable, crosses, lists_send, window_excerpt_send, matches_send, touched_send) depth 40 fits 100000
 
 pub near_sync : IsSync near.the_row
 near_sync = search (sendable, crosses, lists_sync) depth 40 fits 100000

@@ -10,9 +10,7 @@ pub mod RootLemmas
 pub mod QueryLemmas
 pub mod LawfulLemmas
 pub mod FrontLemmas
-pub mod RangeLemmas
 pub mod WindowTurns
-pub mod SlideTurns
 pub mod UnaryTurns
 pub mod JoinTurns
 pub mod ConsumerLemmas

@@ -6,9 +6,9 @@ use Rattle.values.proofs.Windows.{AllAfter, window_rows-later}
 use Rattle.op_queue.specs.Entries.{Entry, RowAt, TickAt}
 use Rattle.op_queue.specs.Signed.{Same}
 use Rattle.op_queue.proofs.SignedLemmas.{Same-refl, Same-sym, Same-trans}
-use Rattle.windows.specs.Laws.{ComeAfter, Each, IsLater, IsRising, WindowRows, WindowTick, coming}
+use Rattle.windows.specs.Laws.{ComeAfter, Each, IsLater, IsPart, IsRising, WindowRows, WindowTick, coming}
 use Rattle.windows.proofs.WindowLemmas.{Each_map, Each_append, Each_front, Each_filter}
-use Rattle.laws_dataflow.specs.Windows.{Brings, opened, AreFrom, AreBelow, IsPart, GoodWindow}
+use Rattle.laws_dataflow.specs.Windows.{Brings, opened, AreFrom, AreBelow, GoodWindow}
 
 -- LISTS
 

@@ -7,8 +7,8 @@ use Rattle.values.specs.Window.{Element, Window, window_rows}
 use Rattle.op_queue.specs.Entries.{Entry, RowAt, TickAt}
 use Rattle.op_queue.specs.Paths.{Leads}
 use Rattle.op_queue.specs.Signed.{Same, Adds, Legal, Turns}
-use Rattle.windows.specs.Laws.{WindowRows, WindowTick, coming}
-use Rattle.laws_dataflow.specs.Windows.{GoodWindow, IsPart}
+use Rattle.windows.specs.Laws.{IsPart, WindowRows, WindowTick, coming}
+use Rattle.laws_dataflow.specs.Windows.{GoodWindow}
 
 -- OPERATORS
 

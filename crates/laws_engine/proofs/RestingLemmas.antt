@@ -37,9 +37,7 @@ at_side s side es = cond (usable s side) (option_map front_instant (front_of es)
 
 -- WINDOWS are usable on the left alone
 stands_usable : (first : ℕ) (w : values.Window) (n : ℕ) (s : State) (held : List Element) → WindowStands first w n s held → usable s Right ≡ false
-stands_usable first w n (state.Range s) held h = refl
-stands_usable first w n (state.Slide s) held h = refl
-stands_usable first w n (state.Latest s) held h = refl
+stands_usable first w n (state.Window s) held h = refl
 stands_usable first w n state.Nothing held h = absurd h
 stands_usable first w n (state.Join s) held h = absurd h
 stands_usable first w n (state.Groups s) held h = absurd h

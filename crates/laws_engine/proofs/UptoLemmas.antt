@@ -5,14 +5,13 @@ use Rattle.std.specs.Option.{option_map_or}
 use Rattle.std.proofs.Math.Seq.{map-set_same}
 use Rattle.values.specs.Row.{Row}
 use Rattle.values.specs.declared.resolved.Window.{Window}
-use Rattle.values.specs.declared.resolved.Window.TheVariants as window
 use Rattle.plan.specs.declared.node.Node.{Node}
 use Rattle.plan.specs.declared.node.Node.TheVariants.{Window as Source, Select, Join, Project, Group, Distinct, ToStream}
 use Rattle.plan.specs.declared.operators.Plan.{Plan}
 use Rattle.operators.specs.Operators.{PlainOperator}
 use Rattle.operators.specs.States.{last_in}
 use Rattle.operators.specs.declared.states.State.{State}
-use Rattle.physical_plans.specs.Beginnings.{AreMade, StateStarts, WindowStarts, window_at}
+use Rattle.physical_plans.specs.Beginnings.{AreMade, StateStarts}
 use Rattle.physical_plans.specs.Beginnings as made
 use Rattle.reference.specs.Commands as machine
 use Rattle.reference.specs.Commands.{change, took}
@@ -91,14 +90,8 @@ upto_added (r ∷ qs) [] q k many = absurd (omega (arith, many))
 upto_added (r ∷ qs) (x ∷ ks) q k many = ap (λ xs. upto_in r x ∷ xs) (upto_added qs ks q k (omega (arith, many)))
 
 -- of a query that has begun the root has taken no tick
-window_unticked : (w : Window) (width : ℕ) (s : State) → WindowStarts w width s → last_in s ≡ None
-window_unticked (window.Range n) width s h = ap last_in h
-window_unticked (window.RangeSlide n l) width s h = ap last_in h
-window_unticked window.Unbounded width s h = ap last_in h
-window_unticked (window.LastRows columns n) width s h = ap last_in h.1
-
 unticked : (ws : List Window) (vs widths : List ℕ) (node : Node) (s : State) → StateStarts ws vs widths node s → last_in s ≡ None
-unticked ws vs widths (Source i) s h = window_unticked (window_at ws i) (get_or vs i 0) s h
+unticked ws vs widths (Source i) s h = ap last_in h.1
 unticked ws vs widths (Select i cs) s h = ap last_in h
 unticked ws vs widths (Join i j keys) s h = ap last_in h
 unticked ws vs widths (Project i places) s h = ap last_in h

@@ -1,6 +1,12 @@
 //! States what holds of an engine of many queries: functions that do nothing, each with a law.
-ghost use Rattle.std.specs.Prelude.{◌≡◌, ℕ, List, Some, false, slice_get};
+ghost use Rattle.std.specs.Prelude.{◌≡◌, ◌≤◌, ℕ, List, Ok, Some, false, slice_get};
+ghost use Rattle.values.specs.Condition.{Condition};
 ghost use Rattle.values.specs.Row.{Row};
+ghost use Rattle.cql_reader.specs.Query.{Query};
+ghost use Rattle.cql_reader.specs.Reading.{reading};
+ghost use Rattle.names.specs.Catalog as catalogs;
+ghost use Rattle.names.specs.Resolved.{resolved};
+ghost use Rattle.row_nodes.specs.Steps.{truths_needed};
 ghost use Rattle.reference.specs.Machine as machine;
 ghost use Rattle.reference.specs.Machine.{Machine, Registered, Stream};
 ghost use Rattle.needed_rows.specs.Queries.{AreCaughtUp, readers_over};
@@ -15,6 +21,16 @@ ghost use Rattle.laws_engine.specs.Promises.{KeepsItsPromises};
 ghost use Rattle.laws_engine.specs.Histories.{Breaks, Call, IsCallStep, LeadTo, empty};
 ghost use Rattle.laws_engine.specs.Openings.{IsUnbroken, forgotten, goes_on, marks_by};
 ghost use Rattle.laws_engine.specs.Remembered.{GivesAsRemembered, LeadBoth};
+
+use lane_kernels::MAX_TRUTHS;
+
+/// Says that the condition of a text needs at most `MAX_TRUTHS` truths at a time, whatever its
+/// names mean. So its steps fit the stack that they run on.
+pub fn conditions_of_texts_fit()
+    ensures { (text : List ℕ) (q : Query) (catalog : List catalogs.Stream) (c : Condition)
+        → reading text ≡ Ok q → (resolved q catalog).condition ≡ Some c
+        → truths_needed c ≤ MAX_TRUTHS }
+{}
 
 /// Says what a good engine gives. For each query, the answers taken followed by those that wait are
 /// a prefix of CQL's answers for the instants that its streams have closed. They are all of them

@@ -6,20 +6,19 @@ use Rattle.values.specs.Row.{Row}
 use Rattle.values.specs.Condition.{SourceColumn, Condition, And, keeps, is_known_true}
 use Rattle.values.specs.Resolved.{columns_of, window_of}
 use Rattle.values.specs.Window.{Element}
-use Rattle.values.specs.Window as shown
 use Rattle.values.specs.declared.resolved.Window.{Window}
-use Rattle.values.specs.declared.resolved.Window.TheVariants as window
 use Rattle.values.proofs.Split.{keeps-and}
 use Rattle.lane_kernels.specs.Steps.{StepsFit}
 use Rattle.op_queue.specs.Entries.{Entry, RowAt, TickAt}
 use Rattle.op_queue.specs.Logs.{Closed, instant_entries, is_shown, log_entries, row_entries}
 use Rattle.op_queue.specs.Cursors.{cursor_entries}
 use Rattle.op_queue.specs.declared.cursor.Cursor.{Cursor}
-use Rattle.windows.specs.Latest.{LatestState}
+use Rattle.windows.proofs.WindowLaw.{begins_empty, shows_none}
 use Rattle.group.specs.Groups.{column_at}
 use Rattle.row_nodes.specs.Steps.{IsOfOneSource, IsOver, OperandIsOfOne, OperandIsOver}
 use Rattle.row_nodes.proofs.StepLemmas.{whole_fits}
 use Rattle.turn.specs.declared.kinds.Kind.{Kind}
+use Rattle.turn.specs.declared.kinds.Kind.TheVariants as kind
 use Rattle.operators.specs.Operators.{Belongs}
 use Rattle.operators.specs.declared.inboxes.Inbox.{Inbox}
 use Rattle.operators.specs.declared.inboxes.Inbox.TheVariants.{First, Between}
@@ -28,13 +27,12 @@ use Rattle.plan.specs.Build.{at}
 use Rattle.plan.specs.Nodes as plan
 use Rattle.plan.specs.Views.{columns_at}
 use Rattle.plan.proofs.Lists.{each-unmap}
-use Rattle.physical_plans.specs.Beginnings.{ReadsSource, WindowStarts, window_kind}
+use Rattle.physical_plans.specs.Beginnings.{ReadsSource, WindowStarts}
 use Rattle.physical_plans.specs.Conjuncts.{all_steps, joined}
 use Rattle.physical_plans.proofs.LawLemmas.{kinds_mean}
 use Rattle.laws_dataflow.specs.Operators.{Tell}
 use Rattle.laws_queries.specs.Counts.{count}
 use Rattle.laws_queries.specs.Queries.{Reads}
-use Rattle.laws_queries.specs.Registrations.{IsTextWindow}
 use Rattle.laws_queries.specs.Runs.{WindowStands, shown_by}
 use Rattle.laws_queries.specs.Widths.{IsStateWide}
 use Rattle.laws_queries.proofs.PlanWidths.{NodeFits}
@@ -115,25 +113,13 @@ pub record WindowBegins (first w : ℕ) (x : Window) (k : Kind) (s : State) : Ty
   pub shows : [] ≡ shown_by s []
   pub wide : IsStateWide w s
 
-pub window_begins : (first w : ℕ) (x : Window) (k : Kind) (s : State) → IsTextWindow (window_of x) → k ≡ window_kind x → WindowStarts x w s → WindowBegins first w x k s
-window_begins first w (window.Range n) k s t e h =
-    subst₂ (λ k s. WindowBegins first w (window.Range n) k s) (sym e) (sym h) (record { belongs = (_, refl); stands = (refl, record { same = refl; up_to = tt }); shows = refl; wide = refl })
-window_begins first w (window.RangeSlide n l) k s t e h =
-    subst₂ (λ k s. WindowBegins first w (window.RangeSlide n l) k s) (sym e) (sym h) (record {
-      belongs = (_, refl);
-      stands = (refl, record { same = refl; up_to = tt; began = omega arith; few = omega arith; shown = λ u is. refl });
-      shows = refl;
-      wide = refl;
-    })
-window_begins first w window.Unbounded k s t e h =
-    subst₂ (λ k s. WindowBegins first w window.Unbounded k s) (sym e) (sym h) (record { belongs = (_, refl); stands = (refl, record { same = refl; up_to = tt }); shows = refl; wide = refl })
-window_begins first w (window.LastRows columns n) k s t e h =
-    let held : LatestState = h.0 in
-    subst₂ (λ k s. WindowBegins first w (window.LastRows columns n) k s) (sym e) (sym h.1) (record {
-      belongs = (held, refl);
-      stands = (ap₂ (λ cs m. shown.LastRows cs m) (sym h.2.columns) (sym h.2.count), record { parts = λ k. h.2.held k; rising = tt; up_to = tt; shown = refl });
-      shows = refl;
-      wide = h.2.width;
+pub window_begins : (first w : ℕ) (x : Window) (k : Kind) (s : State) → k ≡ kind.Window → WindowStarts x w s → WindowBegins first w x k s
+window_begins first w x k s e h =
+    subst₂ (λ k s. WindowBegins first w x k s) (sym e) (sym h.1) (record {
+      belongs = (h.0, refl);
+      stands = (sym h.2.shows, begins_empty first h.0 h.2.empty);
+      shows = shows_none h.0 h.2.empty;
+      wide = h.2.wide;
     })
 
 -- nothing of a log that ends before the first instant waits

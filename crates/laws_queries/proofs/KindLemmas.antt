@@ -24,38 +24,16 @@ pub record Puts (k : Kind) (side : Side) (i : Item) (n : Excerpt) : Type 0 where
   pub outs : List (Entry Row)
   pub is : outs_at k side i n ≡ Put outs
 
-range_puts : (side : Side) (i : Item) (n : Excerpt) → Puts kind.RangeWindow side i n
-range_puts side i near.Nothing = record { outs = _; is = refl }
-range_puts side i (near.Leaving rows) = record { outs = _; is = refl }
-range_puts side i (near.Sliding rows) = record { outs = _; is = refl }
-range_puts side i (near.Fallen rows) = record { outs = _; is = refl }
-range_puts side i (near.Met rows) = record { outs = _; is = refl }
-range_puts side i (near.Groups rows) = record { outs = _; is = refl }
-range_puts side i (near.Lists lists) = record { outs = _; is = refl }
-
-slide_puts : (side : Side) (i : Item) (n : Excerpt) → Puts kind.SlideWindow side i n
-slide_puts side i near.Nothing = record { outs = _; is = refl }
-slide_puts side i (near.Leaving rows) = record { outs = _; is = refl }
-slide_puts side i (near.Sliding rows) = record { outs = _; is = refl }
-slide_puts side i (near.Fallen rows) = record { outs = _; is = refl }
-slide_puts side i (near.Met rows) = record { outs = _; is = refl }
-slide_puts side i (near.Groups rows) = record { outs = _; is = refl }
-slide_puts side i (near.Lists lists) = record { outs = _; is = refl }
-
-latest_puts : (side : Side) (i : Item) (n : Excerpt) → Puts kind.LatestWindow side i n
-latest_puts side i near.Nothing = record { outs = _; is = refl }
-latest_puts side i (near.Leaving rows) = record { outs = _; is = refl }
-latest_puts side i (near.Sliding rows) = record { outs = _; is = refl }
-latest_puts side i (near.Fallen rows) = record { outs = _; is = refl }
-latest_puts side i (near.Met rows) = record { outs = _; is = refl }
-latest_puts side i (near.Groups rows) = record { outs = _; is = refl }
-latest_puts side i (near.Lists lists) = record { outs = _; is = refl }
+window_outs : (side : Side) (i : Item) (n : Excerpt) → Puts kind.Window side i n
+window_outs side i near.Nothing = record { outs = _; is = refl }
+window_outs side i (near.Window rows) = record { outs = _; is = refl }
+window_outs side i (near.Met rows) = record { outs = _; is = refl }
+window_outs side i (near.Groups rows) = record { outs = _; is = refl }
+window_outs side i (near.Lists lists) = record { outs = _; is = refl }
 
 -- the state of a window is no root's
 window_puts : (first : ℕ) (w : Told) (n : ℕ) (held : List Element) (k : Kind) (s : State) (side : Side) (i : Item) → Belongs k s → WindowStands first w n s held → Puts k side i (near_of s side i)
-window_puts first w n held kind.RangeWindow s side i b h = range_puts side i (near_of s side i)
-window_puts first w n held kind.SlideWindow s side i b h = slide_puts side i (near_of s side i)
-window_puts first w n held kind.LatestWindow s side i b h = latest_puts side i (near_of s side i)
+window_puts first w n held kind.Window s side i b h = window_outs side i (near_of s side i)
 window_puts first w n held (kind.Select steps) s side i b h = absurd (subst (λ z. WindowStands first w n z held) b h)
 window_puts first w n held (kind.Project columns) s side i b h = absurd (subst (λ z. WindowStands first w n z held) b h)
 window_puts first w n held kind.Join s side i b h = absurd (subst (λ z. WindowStands first w n z held) b.1 h)

@@ -11,7 +11,9 @@ use Rattle.op_queue.specs.Entries.{Entry}
 use Rattle.op_queue.specs.Logs.{Closed}
 use Rattle.op_queue.specs.Signed.{weigh, Same}
 use Rattle.op_queue.proofs.SignedLemmas.{Same-sym, Same-trans}
-use Rattle.windows.specs.Laws.{rows_in_order}
+use Rattle.windows.specs.Laws as laws
+use Rattle.windows.specs.Laws.{PassesTicks, rows_in_order}
+use Rattle.windows.proofs.WindowLaw.{passes_ticks}
 use Rattle.group.specs.Groups.{grouped}
 use Rattle.group.proofs.DistinctLemmas.{distinct_law}
 use Rattle.plan.specs.Nodes as plan
@@ -32,7 +34,7 @@ use Rattle.laws_dataflow.specs.Passes.{Clears, reached, ended, ticked, Passes, s
 use Rattle.laws_dataflow.specs.Plans.{below_root, least_of, value_of, world_of}
 use Rattle.laws_dataflow.proofs.AnswerLemmas.{query_laid, query_planned}
 use Rattle.laws_dataflow.proofs.PassLemmas.{query_passes}
-use Rattle.laws_dataflow.proofs.QuietLemmas.{group_quiet, latest_on, latest_quiet, range_on, range_quiet, root_moved, root_silent, shows_held, slide_on, slide_quiet}
+use Rattle.laws_dataflow.proofs.QuietLemmas.{group_quiet, root_moved, root_silent, shows_held}
 use Rattle.laws_queries.specs.Runs.{Runs, RunsGroup, RunsDistinct, RunsJoin, RunsProject, RunsSelect, RunsWindow, WindowStands, shown_by}
 use Rattle.laws_queries.specs.Widths.{AreEntries, AreRows, IsBothWide, IsGroupWide, IsJoinWide, IsKindWide, IsOnceWide, IsOneWide, IsSideWide, IsStateWide, IsWide, IsWindowWide, width_at}
 use Rattle.laws_queries.specs.Counts.{AreFew, StaysWithin, count, most_rows, tick_rows}
@@ -70,21 +72,11 @@ record WindowPassed (first : ℕ) (win : Window) (n b : ℕ) (st : State) (held 
   same : passed_state st ≡ st
 
 window_state : (first : ℕ) (win : Window) (n b : ℕ) (st : State) (held : List Element) → n ≤ b → WindowStands first win n st held → IsQuiet n b st → WindowPassed first win n b st held
-window_state first win n b (state.Range s) held le h z = record {
-  still = λ t x y. subst (λ v. Same (rows_in_order held) (window_rows first v t held)) (sym h.0) (range_quiet first s n b held h.1 z t x y);
-  stands = (h.0, range_on n b s.held held le h.1);
-  same = refl;
-}
-window_state first win n b (state.Slide s) held le h z = record {
-  still = λ t x y. subst (λ v. Same (shown_by (state.Slide s) held) (window_rows first v t held)) (sym h.0) (slide_quiet first s n b held z h.1 t x y);
-  stands = (h.0, slide_on first s n b held le z h.1);
-  same = refl;
-}
-window_state first win n b (state.Latest s) held le h z =
-    let e : n + (b - n) ≡ b = omega (arith, le) in
+window_state first win n b (state.Window s) held le h z =
+    let passes : PassesTicks first n b s held = passes_ticks first s n b held le h.1 z in
     record {
-      still = λ t x y. subst (λ v. Same (rows_in_order held) (window_rows first v t held)) (sym h.0) (latest_quiet first s.columns s.count (Rattle.windows.specs.Latest.held_in s.entries) n held h.1 t x);
-      stands = (h.0, subst (λ u. Rattle.windows.specs.Laws.LatestStands first s.columns s.count u (Rattle.windows.specs.Latest.held_in s.entries) held) e (latest_on first s.columns s.count (Rattle.windows.specs.Latest.held_in s.entries) n (b - n) held h.1));
+      still = λ t x y. subst (λ v. Same (laws.shown_by s held) (window_rows first v t held)) (sym h.0) (passes.still t x y);
+      stands = (h.0, passes.stands);
       same = refl;
     }
 window_state first win n b state.Nothing held le h z = absurd h
@@ -94,9 +86,7 @@ window_state first win n b (state.Root s) held le h z = absurd h
 
 -- a window's sides stand where it stands
 pub window_at : (first : ℕ) (win : Window) (m n : ℕ) (st : State) (held : List Element) → WindowStands first win m st held → left_at st n ≡ n
-window_at first win m n (state.Range s) held h = refl
-window_at first win m n (state.Slide s) held h = refl
-window_at first win m n (state.Latest s) held h = refl
+window_at first win m n (state.Window s) held h = refl
 window_at first win m n state.Nothing held h = absurd h
 window_at first win m n (state.Join s) held h = absurd h
 window_at first win m n (state.Groups s) held h = absurd h

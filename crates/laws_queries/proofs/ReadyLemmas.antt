@@ -56,9 +56,7 @@ left_idle o log s q e u is r = is ∙ unready_side o log Left r (ap (λ z. usabl
 
 -- a window uses its one side
 window_usable : (first : ℕ) (w : Told) (n : ℕ) (s : State) (held : List Element) → WindowStands first w n s held → usable s Left ≡ true
-window_usable first w n (state.Range s) held h = refl
-window_usable first w n (state.Slide s) held h = refl
-window_usable first w n (state.Latest s) held h = refl
+window_usable first w n (state.Window s) held h = refl
 window_usable first w n state.Nothing held h = absurd h
 window_usable first w n (state.Join s) held h = absurd h
 window_usable first w n (state.Groups s) held h = absurd h

@@ -30,7 +30,8 @@ use Rattle.plan.specs.declared.node.Node.{Node}
 use Rattle.plan.specs.declared.node.Node.TheVariants.{Window as Source, Select, Join, Project, Group, Distinct, ToStream}
 use Rattle.plan.proofs.Lists.{each-unmap}
 use Rattle.physical_plans.specs.Beginnings as made
-use Rattle.physical_plans.specs.Beginnings.{AreMade, HaveNarrowRows, IsMade, IsMakeable, IsMakeableWindow, grouping, key_pair, nothing_waits, width_made, widths_from, window_at}
+use Rattle.windows.specs.Windows.{IsFormed}
+use Rattle.physical_plans.specs.Beginnings.{AreMade, HaveNarrowRows, IsMade, IsMakeable, grouping, key_pair, nothing_waits, width_made, widths_from, window_at}
 use Rattle.physical_plans.proofs.LawLemmas.{kinds_mean}
 use Rattle.reference.specs.Machine.{Machine, Place, Registered, opens}
 use Rattle.laws_dataflow.specs.Laws.{IsGood}
@@ -87,7 +88,7 @@ window_is [] s = refl
 window_is (w ∷ ws) zero = refl
 window_is (w ∷ ws) (suc s) = window_is ws s
 
-makeable_window : (w : Window) → IsTextWindow (window_of w) → IsMakeableWindow w
+makeable_window : (w : Window) → IsTextWindow (window_of w) → IsFormed w
 makeable_window (window.Range n) h = tt
 makeable_window (window.RangeSlide n l) h = h
 makeable_window window.Unbounded h = tt
@@ -146,7 +147,7 @@ module _ (windows : List Window) (vs ws : List ℕ) (m : Machine) (q : Registere
   source_begins s shows text low width some none came until h =
       let place : get_or (lengths_of q) s 0 ≡ (place_of q s).arrivals = get_or-map (λ (p : Place). p.arrivals) q.places s (record { stream = 0; arrivals = 0 }) 0 low in
       let reads : made.ReadsSource (place_of q s).arrivals q.first o.left = subst (λ p. made.ReadsSource p q.first o.left) place h.left in
-      let b : WindowBegins q.first (get_or vs s 0) (window_at windows s) o.kind o.state = window_begins q.first (get_or vs s 0) (window_at windows s) o.kind o.state (text_window windows s text) h.kind h.state in
+      let b : WindowBegins q.first (get_or vs s 0) (window_at windows s) o.kind o.state = window_begins q.first (get_or vs s 0) (window_at windows s) o.kind o.state h.kind h.state in
       let is : (world_of m q).windows s ≡ window_of (window_at windows s) = ap (λ l. get_or l s Rattle.values.specs.Window.Unbounded) shows ∙ window_is windows s in
       let empty : length ((world_of m q).inputs s) ≡ 0 = ap length none in
       record {

@@ -66,9 +66,7 @@ side_still b n log (Between q) i2 le f e s = subst (SidePasses b n log (Between 
 })
 
 at_left : (b n : ℕ) (st : State) → n < b → left_at st n ≤ b
-at_left b n (state.Range s) h = omega (arith, h)
-at_left b n (state.Slide s) h = omega (arith, h)
-at_left b n (state.Latest s) h = omega (arith, h)
+at_left b n (state.Window s) h = omega (arith, h)
 at_left b n state.Nothing h = omega (arith, h)
 at_left b n (state.Join s) h = by_mark b n s.left.ticked h
   where
@@ -79,9 +77,7 @@ at_left b n (state.Groups s) h = omega (arith, h)
 at_left b n (state.Root s) h = omega (arith, h)
 
 at_right : (b n : ℕ) (st : State) → n < b → right_at st n ≤ b
-at_right b n (state.Range s) h = omega (arith, h)
-at_right b n (state.Slide s) h = omega (arith, h)
-at_right b n (state.Latest s) h = omega (arith, h)
+at_right b n (state.Window s) h = omega (arith, h)
 at_right b n state.Nothing h = omega (arith, h)
 at_right b n (state.Join s) h = by_mark b n s.right.ticked h
   where

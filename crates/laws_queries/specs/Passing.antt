@@ -2,7 +2,6 @@
 -- of these instants leave its windows' queues.
 use Rattle.std.specs.Prelude.{ℕ, zero, suc, ◌≡◌, ◌+◌, ◌-◌, ◌<◌, false, List, [], ◌∷◌}
 use Rattle.std.specs.Prelude.{◌++◌, length}
-use Rattle.std.specs.List.{filter}
 use Rattle.values.specs.Row.{Row}
 use Rattle.reference.specs.Machine.{Machine, Registered}
 use Rattle.column.specs.declared.batch.Side.TheVariants.{Right}
@@ -10,8 +9,7 @@ use Rattle.op_queue.specs.Entries.{Entry, TickAt}
 use Rattle.op_queue.specs.Logs.{Closed}
 use Rattle.join.specs.Turns.{with_marks}
 use Rattle.to_stream.specs.Turns as root
-use Rattle.windows.specs.Range.{is_past}
-use Rattle.windows.specs.Slide.{Stays}
+use Rattle.windows.specs.Windows.{Stays}
 use Rattle.operators.specs.Inboxes.{IsInboxWithin, ReadsOn, entries_in, is_fed}
 use Rattle.operators.specs.Operators.{PlainOperator, waiting}
 use Rattle.operators.specs.declared.inboxes.Inbox.{Inbox}
@@ -22,13 +20,10 @@ use Rattle.laws_dataflow.specs.Plans.{below_root}
 use Rattle.laws_queries.specs.Queries.{IsRunning, log_at, operator_at}
 use Rattle.laws_queries.specs.Rooms.{IsBounded}
 
--- NOTHING IS TO BE DONE from the instant n to below b: at the last of these instants no row has
--- left a window of the last instants yet; a Slide has no multiple among them, or shows all its rows,
--- none of which is past at the last of them; no group was touched since the last tick
+-- NOTHING IS TO BE DONE from the instant n to below b: no row leaves a window or enters it,
+-- and no group was touched since the last tick
 abbrev pub IsQuiet : ℕ → ℕ → State → Type 0
-IsQuiet n b (state.Range s) = filter (is_past s.span (b - 1)) s.held ≡ []
-IsQuiet n b (state.Slide s) = Stays n b s
-IsQuiet n b (state.Latest s) = Unit {0}
+IsQuiet n b (state.Window s) = Stays n b s
 IsQuiet n b state.Nothing = Unit {0}
 IsQuiet n b (state.Join s) = Unit {0}
 IsQuiet n b (state.Groups s) = s.touched ≡ []
@@ -36,9 +31,7 @@ IsQuiet n b (state.Root s) = Unit {0}
 
 -- the state is the same after these instants, except that no side of a join has ticked
 abbrev pub passed_state : State → State
-passed_state (state.Range s) = state.Range s
-passed_state (state.Slide s) = state.Slide s
-passed_state (state.Latest s) = state.Latest s
+passed_state (state.Window s) = state.Window s
 passed_state state.Nothing = state.Nothing
 passed_state (state.Join s) = state.Join (with_marks s false false)
 passed_state (state.Groups s) = state.Groups s

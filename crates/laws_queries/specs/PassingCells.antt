@@ -18,18 +18,14 @@ use Rattle.laws_queries.specs.Queries.{IsRunning, log_at, node_at, operator_at}
 
 -- the instants at which the sides stand of an operator that stands at n
 abbrev pub left_at : State → ℕ → ℕ
-left_at (state.Range s) n = n
-left_at (state.Slide s) n = n
-left_at (state.Latest s) n = n
+left_at (state.Window s) n = n
 left_at state.Nothing n = n
 left_at (state.Join s) n = past s.left.ticked n
 left_at (state.Groups s) n = n
 left_at (state.Root s) n = n
 
 abbrev pub right_at : State → ℕ → ℕ
-right_at (state.Range s) n = n
-right_at (state.Slide s) n = n
-right_at (state.Latest s) n = n
+right_at (state.Window s) n = n
 right_at state.Nothing n = n
 right_at (state.Join s) n = past s.right.ticked n
 right_at (state.Groups s) n = n

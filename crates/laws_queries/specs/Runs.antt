@@ -6,14 +6,13 @@ use Rattle.values.specs.Condition.{SourceColumn, Condition}
 use Rattle.values.specs.Relation.{ListItem}
 use Rattle.values.specs.Resolved.{columns_of, items_of}
 use Rattle.values.specs.declared.resolved.ListItem as listed
-use Rattle.values.specs.Window.{Element, Window, LastRows, RangeSlide}
+use Rattle.values.specs.Window.{Element, Window}
 use Rattle.column.specs.declared.batch.Side.TheVariants.{Left, Right}
 use Rattle.lane_kernels.specs.declared.condition.Step.{Step}
 use Rattle.op_queue.specs.Entries.{Entry}
 use Rattle.op_queue.specs.Logs.{Closed}
-use Rattle.windows.specs.Laws.{RangeStands, SlideStands, LatestStands, range_of, rows_in_order}
-use Rattle.windows.specs.Laws.{slide_shows}
-use Rattle.windows.specs.Latest.{held_in}
+use Rattle.windows.specs.Laws as laws
+use Rattle.windows.specs.Windows as windows
 use Rattle.group.specs.Cells.{TallyState, held, keeps}
 use Rattle.group.specs.Groups.{once_each}
 use Rattle.group.specs.Turns.{GroupState, cell_of}
@@ -34,22 +33,16 @@ use Rattle.laws_dataflow.specs.Operators.{Tell}
 -- WINDOWS
 -- at the open instant n the state stands for the elements that the window holds
 abbrev pub WindowStands : ℕ → Window → ℕ → State → List Element → Type 0
-WindowStands first w n (state.Range s) held = (w ≡ range_of s.span) × RangeStands n s.held held
-WindowStands first w n (state.Slide s) held =
-    (w ≡ RangeSlide s.span s.step) × SlideStands first n s held
-WindowStands first w n (state.Latest s) held =
-    (w ≡ LastRows s.columns s.count)
-    × LatestStands first s.columns s.count n (held_in s.entries) held
+WindowStands first w n (state.Window s) held =
+    (w ≡ windows.window_of s) × laws.Stands first n s held
 WindowStands first w n state.Nothing held = ⊥
 WindowStands first w n (state.Join s) held = ⊥
 WindowStands first w n (state.Groups s) held = ⊥
 WindowStands first w n (state.Root s) held = ⊥
 
--- what it has put out of them: all, or those alone that a window that moves at multiples shows
+-- what it has put out of them
 abbrev pub shown_by : State → List Element → List Row
-shown_by (state.Range s) held = rows_in_order held
-shown_by (state.Slide s) held = slide_shows s held
-shown_by (state.Latest s) held = rows_in_order held
+shown_by (state.Window s) held = laws.shown_by s held
 shown_by state.Nothing held = []
 shown_by (state.Join s) held = []
 shown_by (state.Groups s) held = []

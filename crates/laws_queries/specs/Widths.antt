@@ -9,6 +9,7 @@ use Rattle.values.specs.Window.{Element}
 use Rattle.lane_kernels.specs.Steps.{StepsFit}
 use Rattle.op_queue.specs.Entries.{Entry, RowAt, TickAt}
 use Rattle.windows.specs.Laws.{rows_in_order}
+use Rattle.windows.specs.Windows.{width_of}
 use Rattle.turn.specs.declared.kinds.Kind.{Kind}
 use Rattle.turn.specs.declared.kinds.Kind.TheVariants as kind
 use Rattle.operators.specs.Operators.{PlainOperator}
@@ -37,9 +38,7 @@ pub record IsSideWide (w : ℕ) (took : List Row) (q : List (Entry Row)) : Type 
   pub queue : AreEntries w q
 
 abbrev pub IsStateWide : ℕ → State → Type 0
-IsStateWide w (state.Range s) = s.width ≡ w
-IsStateWide w (state.Slide s) = s.width ≡ w
-IsStateWide w (state.Latest s) = s.width ≡ w
+IsStateWide w (state.Window s) = width_of s ≡ w
 IsStateWide w state.Nothing = ⊥
 IsStateWide w (state.Join s) = ⊥
 IsStateWide w (state.Groups s) = ⊥
@@ -53,9 +52,7 @@ pub record IsWindowWide (w : ℕ) (o : PlainOperator) (held : List Element)
 
 -- the sides of a join have l and r columns, which its state knows
 abbrev pub IsJoinWide : ℕ → ℕ → State → Type 0
-IsJoinWide l r (state.Range s) = ⊥
-IsJoinWide l r (state.Slide s) = ⊥
-IsJoinWide l r (state.Latest s) = ⊥
+IsJoinWide l r (state.Window s) = ⊥
 IsJoinWide l r state.Nothing = ⊥
 IsJoinWide l r (state.Join s) = (s.left.width ≡ l) × (s.right.width ≡ r)
 IsJoinWide l r (state.Groups s) = ⊥
@@ -64,9 +61,7 @@ IsJoinWide l r (state.Root s) = ⊥
 -- rows of w columns have all that Select's steps or Project's
 -- list speak of, and rows of `out` columns come of them
 abbrev pub IsKindWide : ℕ → ℕ → Kind → Type 0
-IsKindWide w out kind.RangeWindow = out ≡ w
-IsKindWide w out kind.SlideWindow = out ≡ w
-IsKindWide w out kind.LatestWindow = out ≡ w
+IsKindWide w out kind.Window = out ≡ w
 IsKindWide w out (kind.Select steps) = StepsFit w 0 steps × (out ≡ w)
 IsKindWide w out (kind.Project places) = All (λ k. k < w) places × (out ≡ length places)
 IsKindWide w out kind.Join = ⊥

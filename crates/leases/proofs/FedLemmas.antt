@@ -9,6 +9,7 @@ use Rattle.op_queue.specs.Items.{entries_of, first_instant, front_of, item_insta
 use Rattle.op_queue.specs.Logs.{Closed}
 use Rattle.op_queue.specs.declared.item.Item.{Item}
 use Rattle.op_queue.specs.declared.item.Item.TheVariants.{Rows, Tick}
+use Rattle.windows.proofs.OutLemmas.{out_rows, out_tick}
 use Rattle.operators.specs.Inboxes.{entries_in, is_fed, queued}
 use Rattle.operators.specs.Operators.{IsFed, PlainOperator, first_ready, front_instant, inbox_of, ready, ready_at, waiting}
 use Rattle.operators.specs.States.{near_of, usable}
@@ -48,12 +49,8 @@ root_starts i (near.Lists lists) = tt
 root_starts i n = tt
 
 pub outs_start : (k : Kind) (s : State) (side : Side) (i : Item) → StartAt (item_instant i) (outs_at k side i (near_of s side i))
-outs_start kind.RangeWindow (state.Range held) side (Rows t b) = rows_start t _
-outs_start kind.RangeWindow (state.Range held) side (Tick t) = tick_starts t _
-outs_start kind.SlideWindow (state.Slide held) side (Rows t b) = inl refl
-outs_start kind.SlideWindow (state.Slide held) side (Tick t) = tick_starts t _
-outs_start kind.LatestWindow (state.Latest held) side (Rows t b) = rows_start t _
-outs_start kind.LatestWindow (state.Latest held) side (Tick t) = inr refl
+outs_start kind.Window (state.Window held) side (Rows t b) = subst (StartsAt t) (sym (out_rows held t b)) (rows_start t _)
+outs_start kind.Window (state.Window held) side (Tick t) = subst (StartsAt t) (sym (out_tick held t)) (tick_starts t _)
 outs_start (kind.Select steps) state.Nothing side (Rows t b) = rows_start t _
 outs_start (kind.Select steps) state.Nothing side (Tick t) = inr refl
 outs_start (kind.Project columns) state.Nothing side (Rows t b) = rows_start t _

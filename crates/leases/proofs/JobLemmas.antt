@@ -17,6 +17,7 @@ use Rattle.laws_engine.specs.Engines.{Dropped, HasSlots, IsIn, PlainEngine, Plai
 use Rattle.laws_engine.proofs.AskLemmas.{may_ask}
 use Rattle.laws_engine.proofs.BackLemmas.{remains_here, remains_there}
 use Rattle.leases.specs.Alone.{one_was_less_own}
+use Rattle.leases.specs.Applied.{AllStand}
 use Rattle.leases.specs.Asked.{HasOperatorAt}
 use Rattle.leases.specs.ByQuery.{HaveComeHome}
 use Rattle.leases.specs.Jobs.{AreBrought, AreOut, HaveOwnQueries, IsBrought, IsDoneJob, IsJobOf, placed}
@@ -30,6 +31,7 @@ use Rattle.leases.specs.declared.limits.TheConstants.{LEASE_NUMBERS}
 use Rattle.leases.specs.declared.state.EngineState.{EngineState}
 use Rattle.leases.specs.declared.state.jobs.Job.{Job}
 use Rattle.leases.specs.declared.state.jobs.TheConstants.{MOST_TURNS}
+use Rattle.leases.proofs.AllStandLemmas.{below_stand}
 use Rattle.leases.proofs.AloneLemmas as alone
 use Rattle.leases.proofs.AloneLemmas.{After, HasRunOn, all_own}
 use Rattle.leases.proofs.BeatLemmas.{next_is}
@@ -299,6 +301,9 @@ module _ (e : PlainEngine) (rows : ℕ) (rest : List Job) (job : Job) (s : Engin
     may_change = all_of (λ z. HasOperatorAt (engine_in m) z.query z.operator) job.slots.items (λ y i.
         let r = below_are e n q p (length p.operators) y (subst (λ zs. IsIn zs y) listed i) in
         subst (λ (z : Slot). HasOperatorAt (engine_in m) z.query z.operator) (sym r.1.1) (has_operator r.0 (omega (arith, r.1.0, many))))
+
+    pub slots_stand : AllStand m.slots job.slots.items
+    slots_stand = subst (λ z. AllStand z job.slots.items) (sym slots_before) (subst (AllStand e.slots) (sym listed) (below_stand e out.good n q p of.registered of.running (length p.operators) (omega (arith, many))))
 
     next_same_for : (k : ℕ) → next_for (engine_in m) n k ≡ next_for g n k
     next_same_for k =

@@ -60,3 +60,4 @@ pub mod JobRunLemmas
 pub mod LendLemmas
 pub mod LendAllLemmas
 pub mod SharesLemmas
+mod AllStandLemmas

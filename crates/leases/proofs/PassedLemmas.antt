@@ -57,18 +57,14 @@ unmarked_both : (s : JoinState) → s.left.ticked ≡ false → s.right.ticked �
 unmarked_both s l r = ap (λ (h : SideState). record { keys = s.keys; left = h; right = marked false s.right }) (unmarked s.left l) ∙ ap (λ (h : SideState). record { keys = s.keys; left = s.left; right = h }) (unmarked s.right r)
 
 state_is : (n b : ℕ) (st : states.State) → op.IsQuiet n b st → ((s : root.State) → st ≡ state.Root s → ⊥) → state_passed b st ≡ passed_state st
-state_is n b (state.Range s) quiet never = refl
-state_is n b (state.Slide s) quiet never = refl
-state_is n b (state.Latest s) quiet never = refl
+state_is n b (state.Window s) quiet never = refl
 state_is n b state.Nothing quiet never = refl
 state_is n b (state.Join s) quiet never = ap state.Join (sym (unmarked_both s quiet.0 quiet.1))
 state_is n b (state.Groups s) quiet never = refl
 state_is n b (state.Root s) quiet never = absurd (never s refl)
 
 quiet_is : (n b : ℕ) (st : states.State) → op.IsQuiet n b st → passing.IsQuiet n b st
-quiet_is n b (state.Range s) quiet = quiet
-quiet_is n b (state.Slide s) quiet = quiet
-quiet_is n b (state.Latest s) quiet = tt
+quiet_is n b (state.Window s) quiet = quiet
 quiet_is n b state.Nothing quiet = tt
 quiet_is n b (state.Join s) quiet = tt
 quiet_is n b (state.Groups s) quiet = quiet

@@ -1,6 +1,7 @@
 -- A turn that comes back, step by step.
 use Rattle.std.specs.Prelude.{ℕ, ⊤, ◌≡◌, ◌≢◌, ◌+◌, ◌<◌, ◌≤◌, ◌==◌, not, filter, MatchOption, Option}
-use Rattle.std.specs.Prelude.{Some, List, length, set}
+use Rattle.std.specs.Prelude.{Some, List, [], ◌∷◌, length, set}
+use Rattle.std.specs.List.{AllByRecursion}
 use Rattle.turn.specs.Turns.{outs_in}
 use Rattle.turn.specs.declared.parts.Parts.{Parts}
 use Rattle.turn.specs.declared.turns.Turn.{Turn}
@@ -149,3 +150,9 @@ MayTell e above = MatchOption above ⊤ (λ a. HasOperatorAt e a.query a.operato
 abbrev pub BothStand : List Slot → Slot → Option Slot → Type 0
 BothStand slots s above = Stands s slots
     × MatchOption above ⊤ (λ a. Stands a slots × (a.operator ≢ s.operator))
+
+-- each is as it stands in the list, all are of one query, and each of another operator
+abbrev pub AllStand : List Slot → List Slot → Type 0
+AllStand slots [] = ⊤
+AllStand slots (s ∷ ss) = Stands s slots
+    × AllByRecursion (λ t. t.operator ≢ s.operator) ss × AllStand slots ss

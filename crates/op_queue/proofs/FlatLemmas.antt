@@ -1,11 +1,13 @@
--- Signed rows whose values stand one behind the other.
-use Rattle.std.proofs.Common.{◌≡◌, ℕ, zero, suc, ◌+◌, ◌-◌, ◌*◌, ◌≤◌, Bool, true, false, not, ℤ, Option, List, [], ◌∷◌, ◌++◌, length, map, take, drop, refl, ap, ap₂, sym, ◌∙◌, subst, arith, append_assoc, append-nil, flat_map, length-append, length-drop, drop-drop, zero-mul, add-mul, suc-add, suc-mul, mul-le-mul_right}
+-- Rows that are kept flat.
+use Rattle.std.proofs.Common.{◌≡◌, ℕ, zero, suc, ◌+◌, ◌-◌, ◌*◌, ◌≤◌, ◌<◌, Bool, true, false, not, ℤ, Option, List, [], ◌∷◌, ◌++◌, length, map, take, drop, get_or, refl, ap, ap₂, sym, ◌∙◌, subst, arith, append_assoc, append-nil, flat_map, length-append, length-drop, drop-drop, zero-mul, add-mul, suc-add, suc-mul, mul-le-mul_right}
+use Rattle.std.specs.List.{All}
+use Rattle.std.proofs.Math.Nat.{eq_of_mul-eq-mul_left}
 use Rattle.std.proofs.Math.Seq.{take-add}
 use Rattle.std.proofs.lemmas.List.{map-append, take-append-le, drop-append-le, drop-take, take_all, length-take-le, take-append-drop}
 use Rattle.std.proofs.lemmas.List.{get_or_append_left}
+use Rattle.std.proofs.lemmas.List.Elements.{All-cons, All-nil}
 use Rattle.values.specs.Row.{Row}
 use Rattle.column.specs.Rows.{flat_rows}
-use Rattle.column.proofs.FlatLemmas.{length-flat_rows}
 use Rattle.op_queue.specs.Entries.{Entry, IsForward, RowAt}
 use Rattle.op_queue.specs.Items.{entries_of}
 use Rattle.op_queue.specs.declared.item.Item.{Item}
@@ -13,77 +15,158 @@ use Rattle.op_queue.specs.declared.item.Item.TheVariants.{Rows}
 use Rattle.std.proofs.lemmas.Grind.{flat_map-append}
 use Rattle.op_queue.specs.Queues.{HasGained, Waiting, first_begins}
 use Rattle.op_queue.proofs.GainLemmas.{gained-item, gained-more, gained-same}
-use Rattle.op_queue.specs.Flat.{AreFlat}
-
-pub flat-append : (w : ℕ) (ls ms : List Bool) (values more : List (Option ℤ)) → length values ≡ length ls * w → flat_rows w (ls ++ ms) (values ++ more) ≡ flat_rows w ls values ++ flat_rows w ms more
-flat-append w [] ms [] more size = refl
-flat-append w [] ms (v ∷ values) more size = absurd (omega (arith, size, zero-mul w))
-flat-append w (l ∷ ls) ms values more size =
-    let e : length values ≡ length ls * w + w = size ∙ suc-mul (length ls) w in
-    let le : w ≤ length values = omega (arith, e) in
-    ap₂ (λ (r : Row) (rs : List (Bool × Row)). (not l, r) ∷ rs)
-    (take-append-le w values more le)
-    (ap (flat_rows w (ls ++ ms)) (drop-append-le w values more le) ∙ flat-append w ls ms (drop w values) more (length-drop w values ∙ omega (arith, e)))
-
-pub not-not : (b : Bool) → not (not b) ≡ b
-not-not true = refl
-not-not false = refl
-
--- one row more
-pub flat-push : (w : ℕ) (ls : List Bool) (values : List (Option ℤ)) (enters : Bool) (row : Row) → length values ≡ length ls * w → length row ≡ w → flat_rows w (ls ++ not enters ∷ []) (values ++ row) ≡ flat_rows w ls values ++ (enters, row) ∷ []
-flat-push w ls values enters row size wide =
-    flat-append w ls (not enters ∷ []) values row size
-    ∙ ap₂ (λ (b : Bool) (r : Row). flat_rows w ls values ++ (b, r) ∷ []) (not-not enters) (take_all w row (omega (arith, wide)))
-
-pub flat_one_more : (w : ℕ) (ls : List Bool) (values : List (Option ℤ)) (l : Bool) (row : Row) → AreFlat w ls values → length row ≡ w → AreFlat w (ls ++ l ∷ []) (values ++ row)
-flat_one_more w ls values l row is wide = record {
-  size =
-      let one : length values + length row ≡ (length ls + 1) * w = omega (arith, is.size, wide, add-mul (length ls) 1 w) in
-      length-append values row ∙ one ∙ ap (λ (n : ℕ). n * w) (sym (length-append ls (l ∷ [])));
-  narrow = is.narrow;
-}
-
--- A PART OF THE ROWS
-flat-drop : (w k : ℕ) (ls : List Bool) (values : List (Option ℤ)) → drop k (flat_rows w ls values) ≡ flat_rows w (drop k ls) (drop (k * w) values)
-flat-drop w zero ls values = ap (λ (n : ℕ). flat_rows w ls (drop n values)) (sym (zero-mul w))
-flat-drop w (suc k) [] values = refl
-flat-drop w (suc k) (l ∷ ls) values =
-    let e : w + k * w ≡ suc k * w = omega (arith, suc-mul k w) in
-    flat-drop w k ls (drop w values)
-    ∙ ap (flat_rows w (drop k ls)) (drop-drop (k * w) w values)
-    ∙ ap (λ (n : ℕ). flat_rows w (drop k ls) (drop n values)) e
-
-flat-take : (w k : ℕ) (ls : List Bool) (values : List (Option ℤ)) → take k (flat_rows w ls values) ≡ flat_rows w (take k ls) values
-flat-take w zero ls values = refl
-flat-take w (suc k) [] values = refl
-flat-take w (suc k) (l ∷ ls) values = ap (λ (rs : List (Bool × Row)). (not l, take w values) ∷ rs) (flat-take w k ls (drop w values))
+use Rattle.op_queue.specs.Flat.{AreFlat, Flat, flat_in, rows_in, with_rows}
 
 take_within : {X : Type 0} (w m : ℕ) (xs : List X) → take w (take (w + m) xs) ≡ take w xs
 take_within zero m xs = refl
 take_within (suc w) m [] = ap (λ n. take (suc w) (take n [])) (suc-add w m)
 take_within (suc w) m (x ∷ xs) = ap (λ n. take (suc w) (take n (x ∷ xs))) (suc-add w m) ∙ ap (λ l. x ∷ l) (take_within w m xs)
 
-flat-first : (w n : ℕ) (ls : List Bool) (values : List (Option ℤ)) → n ≡ length ls * w → flat_rows w ls (take n values) ≡ flat_rows w ls values
-flat-first w n [] values e = refl
-flat-first w n (l ∷ ls) values e =
-    let m : ℕ = length ls * w in
-    let split : n ≡ w + m = omega (arith, e, suc-mul (length ls) w) in
-    ap (λ (k : ℕ). flat_rows w (l ∷ ls) (take k values)) split
-    ∙ ap₂ (λ (r : Row) (rs : List (Bool × Row)). (not l, r) ∷ rs) (take_within w m values) (ap (flat_rows w ls) (drop-take w m values) ∙ flat-first w m ls (drop w values) refl)
+-- the rows have heads of any kind
+module _ {H : Type 0} where
+  pub length-rows_in : (w : ℕ) (hs : List H) (values : List (Option ℤ)) → length (rows_in w hs values) ≡ length hs
+  length-rows_in w [] values = refl
+  length-rows_in w (h ∷ hs) values = ap suc (length-rows_in w hs (drop w values))
 
-pub flat-part : (w place count start end : ℕ) (ls : List Bool) (values : List (Option ℤ)) → place + count ≤ length ls → start ≡ place * w → end ≡ start + count * w
-    → flat_rows w (take count (drop place ls)) (take (end - start) (drop start values)) ≡ take count (drop place (flat_rows w ls values))
-flat-part w place count start end ls values within s e =
-    let size : length (take count (drop place ls)) ≡ count = length-take-le count (drop place ls) (omega (arith, within, length-drop place ls)) in
-    flat-first w (end - start) (take count (drop place ls)) (drop start values) (omega (arith, e) ∙ ap (λ (n : ℕ). n * w) (sym size))
-    ∙ ap (λ (n : ℕ). flat_rows w (take count (drop place ls)) (drop n values)) s
-    ∙ sym (ap (take count) (flat-drop w place ls values) ∙ flat-take w count (drop place ls) (drop (place * w) values))
+  -- MORE ROWS
+  pub rows_in-append : (w : ℕ) (hs more : List H) (values longer : List (Option ℤ)) → length values ≡ length hs * w → rows_in w (hs ++ more) (values ++ longer) ≡ rows_in w hs values ++ rows_in w more longer
+  rows_in-append w [] more [] longer size = refl
+  rows_in-append w [] more (v ∷ values) longer size = absurd (omega (arith, size, zero-mul w))
+  rows_in-append w (h ∷ hs) more values longer size =
+      let e : length values ≡ length hs * w + w = size ∙ suc-mul (length hs) w in
+      let le : w ≤ length values = omega (arith, e) in
+      ap₂ (λ (r : Row) (rs : List (H × Row)). (h, r) ∷ rs)
+      (take-append-le w values longer le)
+      (ap (rows_in w (hs ++ more)) (drop-append-le w values longer le) ∙ rows_in-append w hs more (drop w values) longer (length-drop w values ∙ omega (arith, e)))
 
-pub rows_fit : (w k : ℕ) (ls : List Bool) (values : List (Option ℤ)) → AreFlat w ls values → k ≤ length ls → k * w ≤ length values
-rows_fit w k ls values is le = omega (arith, is.size, mul-le-mul_right {m = k} {n = length ls} w le)
+  -- what the lists are after a row more
+  pub record IsPushed (w : ℕ) (o : Flat H) (h : H) (row : Row) (heads : List H) (longer : List (Option ℤ)) : Type 0 where
+    pub flat : AreFlat w heads longer
+    pub rows : flat_in w heads longer ≡ with_rows o ((h, row) ∷ [])
 
-pub rows_many : (w : ℕ) (ls : List Bool) (values : List (Option ℤ)) (rows : List (Bool × Row)) → flat_rows w ls values ≡ rows → length rows ≡ length ls
-rows_many w ls values rows is = ap (λ (rs : List (Bool × Row)). length rs) (sym is) ∙ length-flat_rows w ls values
+  pub pushed : (w : ℕ) (hs : List H) (values : List (Option ℤ)) (o : Flat H) (h : H) (row : Row) (heads : List H) (longer : List (Option ℤ)) → AreFlat w hs values → flat_in w hs values ≡ o → length row ≡ o.width
+      → heads ≡ hs ++ h ∷ [] → longer ≡ values ++ row → IsPushed w o h row heads longer
+  pushed w hs values o h row heads longer are view wide is holds =
+      let fits : length row ≡ w = wide ∙ sym (ap (λ (s : Flat H). s.width) view) in
+      let one : length values + length row ≡ (length hs + 1) * w = omega (arith, are.size, fits, add-mul (length hs) 1 w) in
+      record {
+        flat = record {
+          size = ap (λ (vs : List (Option ℤ)). length vs) holds ∙ length-append values row ∙ one ∙ ap (λ (n : ℕ). n * w) (sym (ap (λ (ks : List H). length ks) is ∙ length-append hs (h ∷ [])));
+          narrow = are.narrow;
+        };
+        rows =
+            ap₂ (λ (ks : List H) (vs : List (Option ℤ)). flat_in w ks vs) is holds
+            ∙ ap (λ (rs : List (H × Row)). record { width = w; rows = rs })
+            (rows_in-append w hs (h ∷ []) values row are.size ∙ ap (λ (r : Row). rows_in w hs values ++ (h, r) ∷ []) (take_all w row (omega (arith, fits))))
+            ∙ ap (λ (s : Flat H). with_rows s ((h, row) ∷ [])) view;
+      }
+
+  -- A PART OF THE ROWS
+  pub rows_in-drop : (w k : ℕ) (hs : List H) (values : List (Option ℤ)) → rows_in w (drop k hs) (drop (k * w) values) ≡ drop k (rows_in w hs values)
+  rows_in-drop w zero hs values = ap (λ n. rows_in w hs (drop n values)) (zero-mul w)
+  rows_in-drop w (suc k) [] values = refl
+  rows_in-drop w (suc k) (h ∷ hs) values =
+      let e : suc k * w ≡ w + k * w = omega (arith, suc-mul k w) in
+      ap (λ n. rows_in w (drop k hs) (drop n values)) e
+      ∙ ap (rows_in w (drop k hs)) (sym (drop-drop (k * w) w values))
+      ∙ rows_in-drop w k hs (drop w values)
+
+  pub rows_in-take : (w k : ℕ) (hs : List H) (values : List (Option ℤ)) → rows_in w (take k hs) (take (k * w) values) ≡ take k (rows_in w hs values)
+  rows_in-take w zero hs values = refl
+  rows_in-take w (suc k) [] values = refl
+  rows_in-take w (suc k) (h ∷ hs) values =
+      let e : suc k * w ≡ w + k * w = omega (arith, suc-mul k w) in
+      ap₂ (λ (r : Row) (rs : List (H × Row)). (h, r) ∷ rs)
+      (ap (λ n. take w (take n values)) e ∙ take_within w (k * w) values)
+      (ap (λ n. rows_in w (take k hs) (drop w (take n values))) e ∙ ap (rows_in w (take k hs)) (drop-take w (k * w) values) ∙ rows_in-take w k hs (drop w values))
+
+  pub rows_in-part : (w place count start end : ℕ) (hs : List H) (values : List (Option ℤ)) → start ≡ place * w → end ≡ start + count * w
+      → rows_in w (take count (drop place hs)) (take (end - start) (drop start values)) ≡ take count (drop place (rows_in w hs values))
+  rows_in-part w place count start end hs values s e =
+      let few : end - start ≡ count * w = omega (arith, e) in
+      ap₂ (λ (m n : ℕ). rows_in w (take count (drop place hs)) (take m (drop n values))) few s
+      ∙ rows_in-take w count (drop place hs) (drop (place * w) values)
+      ∙ ap (take count) (rows_in-drop w place hs values)
+
+  pub rows_fit : (w k : ℕ) (hs : List H) (values : List (Option ℤ)) → AreFlat w hs values → k ≤ length hs → k * w ≤ length values
+  rows_fit w k hs values are le = omega (arith, are.size, mul-le-mul_right {m = k} {n = length hs} w le)
+
+  -- ONE ROW
+  pub row-at : (w place : ℕ) (hs : List H) (values : List (Option ℤ)) (d : Row) → place < length hs → get_or (map (λ r. r.1) (rows_in w hs values)) place d ≡ take w (drop (place * w) values)
+  row-at w place [] values d lt = absurd (omega (arith, lt))
+  row-at w zero (h ∷ hs) values d lt = ap (λ n. take w (drop n values)) (sym (zero-mul w))
+  row-at w (suc place) (h ∷ hs) values d lt =
+      let e : w + place * w ≡ suc place * w = omega (arith, suc-mul place w) in
+      row-at w place hs (drop w values) d (omega (arith, lt))
+      ∙ ap (take w) (drop-drop (place * w) w values)
+      ∙ ap (λ n. take w (drop n values)) e
+
+  -- a place among the rows is one among the heads
+  pub is_there : (w place : ℕ) (hs : List H) (values : List (Option ℤ)) (o : Flat H) → flat_in w hs values ≡ o → place < length o.rows → place < length hs
+  is_there w place hs values o view lt = omega (arith, lt, length-rows_in w hs values, ap (λ (s : Flat H). length s.rows) view)
+
+  pub row_fits : (w place : ℕ) (hs : List H) (values : List (Option ℤ)) (o : Flat H) → AreFlat w hs values → flat_in w hs values ≡ o → place < length o.rows → place * w + w ≤ length values
+  row_fits w place hs values o are view lt =
+      let there : place < length hs = is_there w place hs values o view lt in
+      omega (arith, rows_fit w (suc place) hs values are (omega (arith, there)), suc-mul place w)
+
+  pub rows-wide : (w : ℕ) (hs : List H) (values : List (Option ℤ)) → length values ≡ length hs * w → All (λ r. length r.1 ≡ w) (rows_in w hs values)
+  rows-wide w [] values size = All-nil (λ (r : H × Row). length r.1 ≡ w)
+  rows-wide w (h ∷ hs) values size =
+      let e : length values ≡ length hs * w + w = size ∙ suc-mul (length hs) w in
+      All-cons (λ (r : H × Row). length r.1 ≡ w) (h, take w values) (rows_in w hs (drop w values)) (length-take-le w values (omega (arith, e)))
+      (rows-wide w hs (drop w values) (length-drop w values ∙ omega (arith, e)))
+
+-- values that are written in three parts
+pub formed_more : {X : Type 0} (old start first next last before chosen after : List X) → start ≡ old → first ≡ start ++ before → next ≡ first ++ chosen → last ≡ next ++ after → last ≡ old ++ (before ++ (chosen ++ after))
+formed_more old start first next last before chosen after s f n l =
+    l ∙ ap (λ xs. xs ++ after) (n ∙ ap (λ xs. xs ++ chosen) (f ∙ ap (λ xs. xs ++ before) s))
+    ∙ append_assoc (old ++ before) chosen after
+    ∙ append_assoc old before (chosen ++ after)
+
+-- SIGNED ROWS
+pub not-not : (b : Bool) → not (not b) ≡ b
+not-not true = refl
+not-not false = refl
+
+pub signed-flat : (w : ℕ) (enters : List Bool) (values : List (Option ℤ)) → flat_rows w (map not enters) values ≡ rows_in w enters values
+signed-flat w [] values = refl
+signed-flat w (e ∷ enters) values = ap₂ (λ (b : Bool) (rs : List (Bool × Row)). (b, take w values) ∷ rs) (not-not e) (signed-flat w enters (drop w values))
+
+-- THE SAME ROWS
+-- rows whose heads say nothing are known from their number and their values
+abbrev NoHead : Type 0
+NoHead = Unit {0}
+
+pub values_in : (w : ℕ) (hs : List NoHead) (values : List (Option ℤ)) → length values ≡ length hs * w → flat_map (λ r. r.1) (rows_in w hs values) ≡ values
+values_in w [] [] size = refl
+values_in w [] (v ∷ values) size = absurd (omega (arith, size, zero-mul w))
+values_in w (h ∷ hs) values size =
+    let rest : length (drop w values) ≡ length hs * w = length-drop w values ∙ omega (arith, size, suc-mul (length hs) w) in
+    ap (λ (vs : List (Option ℤ)). take w values ++ vs) (values_in w hs (drop w values) rest) ∙ take-append-drop w values
+
+pub same_values : (w v : ℕ) (hs gs : List NoHead) (values others : List (Option ℤ)) → AreFlat w hs values → AreFlat v gs others → rows_in w hs values ≡ rows_in v gs others → values ≡ others
+same_values w v hs gs values others are those is = sym (values_in w hs values are.size) ∙ ap (flat_map (λ (r : NoHead × Row). r.1)) is ∙ values_in v gs others those.size
+
+same_heads : (hs gs : List NoHead) → length hs ≡ length gs → hs ≡ gs
+same_heads [] [] e = refl
+same_heads [] (g ∷ gs) e = absurd (omega (arith, e))
+same_heads (h ∷ hs) [] e = absurd (omega (arith, e))
+same_heads (h ∷ hs) (g ∷ gs) e = ap (λ (l : List NoHead). h ∷ l) (same_heads hs gs (omega (arith, e)))
+
+-- if there are none, their width says nothing
+alike : (w v : ℕ) (hs : List NoHead) (values : List (Option ℤ)) → length values ≡ length hs * w → length values ≡ length hs * v → rows_in w hs values ≡ rows_in v hs values
+alike w v [] values size other = refl
+alike w v (h ∷ hs) values size other =
+    ap (λ (u : ℕ). rows_in u (h ∷ hs) values) (eq_of_mul-eq-mul_left (length (h ∷ hs)) (omega arith) w v (sym size ∙ other))
+
+pub same_many : (w v : ℕ) (hs gs : List NoHead) (values others : List (Option ℤ)) → rows_in w hs values ≡ rows_in v gs others → length hs ≡ length gs
+same_many w v hs gs values others is = sym (length-rows_in w hs values) ∙ ap (λ (rs : List (NoHead × Row)). length rs) is ∙ length-rows_in v gs others
+
+pub same_rows : (w v : ℕ) (hs gs : List NoHead) (values others : List (Option ℤ)) → AreFlat w hs values → AreFlat v gs others → length hs ≡ length gs → values ≡ others → rows_in w hs values ≡ rows_in v gs others
+same_rows w v hs gs values others are those many is =
+    alike w v hs values are.size (ap length is ∙ those.size ∙ ap (λ n. n * v) (sym many))
+    ∙ ap₂ (rows_in v) (same_heads hs gs many) is
 
 -- BATCH BY BATCH
 rows_more : (t place more : ℕ) (rows : List (Bool × Row)) → map (RowAt t) (take (place + more) rows) ≡ map (RowAt t) (take place rows) ++ map (RowAt t) (take more (drop place rows))

@@ -6,8 +6,8 @@ use Rattle.column.specs.Bits.{chosen}
 use Rattle.column.specs.Rows.{IsBatch}
 use Rattle.op_queue.specs.Entries.{Entry, RowAt}
 use Rattle.op_queue.specs.Items.{entries_of}
-use Rattle.op_queue.specs.Pieces.{IsQueue, IsTakenSized, piece_entries, queue_entries, waiting_in}
-use Rattle.op_queue.specs.Queues.{HasDropped, HasGained, IsFrontBatch, Waiting, chosen_first}
+use Rattle.op_queue.specs.Pieces.{IsQueue, IsTakenSized, IsTakenWhole, piece_entries, queue_entries, waiting_in}
+use Rattle.op_queue.specs.Queues.{HasDropped, HasGained, HaveMoved, IsFrontBatch, Waiting, chosen_first, in_columns}
 use Rattle.op_queue.specs.declared.item.Item.TheVariants as item
 use Rattle.op_queue.specs.declared.queue.Piece.{Piece}
 use Rattle.op_queue.specs.declared.queue.Piece.TheVariants.{Rows}
@@ -40,6 +40,28 @@ sized_dropped {taken} n m ps qs t b w seen none h s batch same =
     let l = sized_left n ps qs t b none h s batch in
     subst P seen (subst Q (size_of t b s.sized ∙ same) (record { entries = l.entries; begins = l.begins; pieces = l.fewer; counted = l.counted }))
 
+-- the batch that was first, of at most so many rows
+few_left : {taken len : ℕ} (n : ℕ) (ps qs : List Piece) (t : ℕ) (b : List (Bool × Row)) → taken ≡ 0 → IsQueue taken len ps → IsTakenWhole n ps qs (item.Rows t b) → 0 < n → IsLeft taken len n ps qs (item.Rows t b)
+few_left n ps qs t b none h w some = taken_whole n ps qs (item.Rows t b) none h w some
+
+pub few_queue : {taken len : ℕ} (n : ℕ) (ps qs : List Piece) (t : ℕ) (b : List (Bool × Row)) → taken ≡ 0 → IsQueue taken len ps → IsTakenWhole n ps qs (item.Rows t b) → 0 < n → IsQueue taken (len - length b) qs
+few_queue {taken} {len} n ps qs t b none h w some =
+    let P : ℕ → Type 0 = λ k. IsQueue taken (len - k) qs in
+    subst P (length-map b (RowAt t)) (few_left n ps qs t b none h w some).queue
+
+pub few_first : {taken len : ℕ} (n : ℕ) (ps qs : List Piece) (t : ℕ) (b : List (Bool × Row)) (w : Waiting) → waiting_in taken ps ≡ w → taken ≡ 0 → IsQueue taken len ps → IsTakenWhole n ps qs (item.Rows t b) → 0 < n → IsFrontBatch n w t b
+few_first n ps qs t b w seen none h taken some =
+    let l = few_left n ps qs t b none h taken some in
+    let P : Waiting → Type 0 = λ v. IsFrontBatch n v t b in
+    subst P seen (record { part = l.part; value = l.value })
+
+few_dropped : {taken len : ℕ} (n : ℕ) (ps qs : List Piece) (t : ℕ) (b : List (Bool × Row)) (w : Waiting) → waiting_in taken ps ≡ w → taken ≡ 0 → IsQueue taken len ps → IsTakenWhole n ps qs (item.Rows t b) → 0 < n → HasDropped (length b) w (waiting_in taken qs)
+few_dropped {taken} n ps qs t b w seen none h whole some =
+    let l = few_left n ps qs t b none h whole some in
+    let P : Waiting → Type 0 = λ v. HasDropped (length b) v (waiting_in taken qs) in
+    let Q : ℕ → Type 0 = λ k. HasDropped k (waiting_in taken ps) (waiting_in taken qs) in
+    subst P seen (subst Q (length-map b (RowAt t)) (record { entries = l.entries; begins = l.begins; pieces = l.fewer; counted = l.counted }))
+
 -- the rows that the mask chooses of it
 pub sized_chosen : {taken len : ℕ} (n : ℕ) (mask : List Bool) (ps qs : List Piece) (t : ℕ) (b : List (Bool × Row)) (w : Waiting) → waiting_in taken ps ≡ w → taken ≡ 0 → IsQueue taken len ps → IsTakenSized n ps qs t b → IsBatch b → n ≡ length mask
     → chosen_first mask w ≡ map (RowAt t) (chosen mask b)
@@ -55,6 +77,18 @@ moved_some {taken} {len} {es} ps t rows w seen h chose entries =
     let new = waiting_in taken (ps ++ Rows t rows ∷ []) in
     let P : Waiting → Type 0 = λ v. HasGained es v new in
     subst P seen (gained-same (sym chose) (gained-item (item.Rows t rows) (waiting_in taken ps) new entries (queue_begins-push {taken = taken} {len = len} ps (Rows t rows) h)))
+
+-- the batch went with only some columns
+pub moved_columns : {taken len taken2 len2 : ℕ} (n : ℕ) (places : List ℕ) (ps qs ps2 : List Piece) (t : ℕ) (b rows : List (Bool × Row)) (w w2 : Waiting) → waiting_in taken ps ≡ w → taken ≡ 0 → IsQueue taken len ps → IsTakenWhole n ps qs (item.Rows t b) → 0 < n
+    → waiting_in taken2 ps2 ≡ w2 → IsQueue taken2 len2 ps2 → rows ≡ in_columns places b → queue_entries taken2 (ps2 ++ Rows t rows ∷ []) ≡ queue_entries taken2 ps2 ++ piece_entries (Rows t rows)
+    → HaveMoved n places w w2 (waiting_in taken qs) (waiting_in taken2 (ps2 ++ Rows t rows ∷ []))
+moved_columns n places ps qs ps2 t b rows w w2 seen none h whole some seen2 h2 are entries = record {
+  instant = t;
+  rows = b;
+  first = few_first n ps qs t b w seen none h whole some;
+  dropped = few_dropped n ps qs t b w seen none h whole some;
+  gained = moved_some ps2 t rows w2 seen2 h2 (ap (map (RowAt t)) (sym are)) entries;
+}
 
 pub moved_none : {es : List (Entry Row)} (w : Waiting) → es ≡ [] → HasGained es w w
 moved_none w none = gained-same (sym none) (gained-none w)

@@ -3,7 +3,7 @@ use Rattle.std.specs.Prelude.{◌≡◌, ℕ, ◌+◌, ◌<◌, ◌≤◌, ◌==
 use Rattle.std.specs.Prelude.{Some, List, [], ◌∷◌, ◌++◌, map, take, drop, min, get_or, length}
 use Rattle.std.specs.List.{flat_map, last_or}
 use Rattle.values.specs.Row.{Row}
-use Rattle.column.specs.Bits.{chosen}
+use Rattle.column.specs.Bits.{at_places, chosen}
 use Rattle.op_queue.specs.Entries.{Entry, RowAt, TickAt}
 use Rattle.op_queue.specs.Items.{IsFrontPart, entries_of}
 use Rattle.op_queue.specs.declared.item.Item.{Item}
@@ -113,6 +113,18 @@ pub record HasGained (es : List (Entry Row)) (old new : Waiting) : Type 0 where
   pub stand : flat_map entries_of items ≡ es
   pub entries : new.entries ≡ old.entries ++ es
   pub begins : new.begins ≡ old.begins ++ flat_map (λ i. first_begins (entries_of i)) items
+
+-- signed rows with only the columns at these places
+abbrev pub in_columns : List ℕ → List (Bool × Row) → List (Bool × Row)
+in_columns places b = map (λ s. (s.0, at_places None places s.1)) b
+
+-- the batch that stands first went to the back of the other queue, with only these columns
+pub record HaveMoved (count : ℕ) (places : List ℕ) (old to new to2 : Waiting) : Type 0 where
+  pub instant : ℕ
+  pub rows : List (Bool × Row)
+  pub first : IsFrontBatch count old instant rows
+  pub dropped : HasDropped (length rows) old new
+  pub gained : HasGained (map (RowAt instant) (in_columns places rows)) to to2
 
 -- rows of one instant were pushed, of which there may be none
 abbrev pub HasGrown : Waiting → Waiting → Type 0

@@ -1,20 +1,25 @@
 //! Keeps queues: signed rows and ticks between two operators.
 ghost use Rattle.std.specs.Prelude.{◌≡◌, ◌↔◌, IsTrue, Some, ◌+◌, ◌^◌, ◌<◌, ◌≤◌, ◌++◌, []};
 ghost use Rattle.std.specs.Prelude.{length, take, drop, IfOk, IfSome, OnOk, OnErr, MatchOption, min};
+ghost use Rattle.std.specs.Prelude.{ℕ, All, Bool, List, map};
 ghost use Rattle.std.specs.Bool.{OnTrue, OnFalse};
-ghost use Rattle.op_queue.specs.Entries.{IsForward};
+ghost use Rattle.column.specs.Rows.{width};
+ghost use Rattle.values.specs.Row.{Row};
+ghost use Rattle.values.specs.declared.TheConstants.{MAX_COLUMNS};
+ghost use Rattle.op_queue.specs.Entries.{IsForward, RowAt};
 ghost use Rattle.op_queue.specs.Items.{entries_of, first_instant, front_of, ticks};
 ghost use Rattle.op_queue.specs.Items.{IsFrontPart};
 ghost use Rattle.op_queue.specs.Queues.{HasDropped, HasGained, HasLeft, IsCut, IsFirst};
 ghost use Rattle.op_queue.specs.Queues.{IsFrontBatch, at_once, chosen_first, each_begins};
-ghost use Rattle.op_queue.specs.Queues.{first_begins};
+ghost use Rattle.op_queue.specs.Queues.{first_begins, in_columns, HaveMoved};
 ghost use Rattle.op_queue.specs.Queues.{item_pieces, last_entry, pieces_of, run_pieces};
 ghost use Rattle.op_queue.specs.Pieces.{end_of_pieces, piece_begins, piece_entries, piece_size};
 ghost use Rattle.op_queue.specs.Pieces.{IsApart, IsLongerRun, IsPiece, IsTakenSized};
 ghost use Rattle.op_queue.specs.Pieces.{IsTakenWhole};
+ghost use Rattle.op_queue.specs.declared.item.Item.TheVariants.{Rows};
 
 use crate::item::Item;
-use column::{Batch, Mask};
+use column::{Batch, Mask, are_rising};
 use std::alloc::{AllocError, Global};
 use std::collections::VecDeque;
 use std::marker::Model;
@@ -272,6 +277,51 @@ impl Queue {
         Ok(true)
     }
 
+    /// Moves the batch at the front to the back of another queue, with only the columns at these
+    /// places. Returns whether it did so: it leaves both as they were where something of the batch
+    /// has left, where it has more than `count` rows, or where the places do not rise. Copies no
+    /// value.
+    ///
+    /// # Errors
+    /// `AllocError` when out of memory; then both queues are as they were.
+    pub fn move_columns(
+        &mut self,
+        count: usize,
+        places: &[usize],
+        to: &mut Queue,
+    ) -> Result<bool, AllocError>
+        requires some { 0 < count }
+        requires narrow { length places.now ≤ MAX_COLUMNS }
+        requires within { (t : ℕ) (b : List (Bool × Row)) → IsFrontBatch count self.old t b
+            → All (λ k. k < width b) places.now }
+        requires forward { (t : ℕ) (b : List (Bool × Row)) → IsFrontBatch count self.old t b
+            → IsForward (to.old.entries ++ map (RowAt t) (in_columns places.now b)) }
+        ensures moved { IfOk result (λ moved.
+            OnTrue moved (HaveMoved count places.now self.old to.old self.new to.new)) }
+        ensures stays { IfOk result (λ moved.
+            OnFalse moved ((self.new ≡ self.old) × (to.new ≡ to.old))) }
+        ensures err { OnErr result ((self.new ≡ self.old) × (to.new ≡ to.old)) }
+    {
+        to.pieces.reserve(1)?;
+        if self.taken != 0 {
+            return Ok(false);
+        }
+        if !are_rising(places) {
+            return Ok(false);
+        }
+        let Some((at, batch)) = take_few(&mut self.pieces, count) else {
+            return Ok(false);
+        };
+        let gone = batch.len();
+        self.waiting -= gone as u128;
+        let rows = batch.narrowed(places);
+        let size = rows.len() as u128;
+        to.pieces.push_back_reserved(Piece::Rows(at, rows));
+        let _count = to.pieces.len(); // for the proof
+        to.waiting += size;
+        Ok(true)
+    }
+
     /// Drops the first `count` rows and ticks.
     pub fn drop_front(&mut self, count: usize)
         requires { count ≤ length self.old.entries }
@@ -330,6 +380,7 @@ impl Queue {
     ///
     /// # Errors
     /// `AllocError` when out of memory; then the queue is as it was, and the piece is dropped.
+    #[inline(always)]
     fn push_piece(&mut self, piece: Piece) -> Result<(), AllocError>
         requires forward { IsForward (self.old.entries ++ piece_entries piece) }
         requires shaped { IsPiece piece }
@@ -413,14 +464,8 @@ fn take_batch(pieces: &mut VecDeque<Piece>, count: usize) -> Option<Item>
     ensures { MatchOption result (pieces.new.items ≡ pieces.old.items)
         (IsTakenWhole count pieces.old.items pieces.new.items) }
 {
-    match pieces.front() {
-        Some(Piece::Rows(_, batch)) if batch.len() <= count => (),
-        _ => return None,
-    }
-    match pieces.pop_front() {
-        Some(Piece::Rows(at, batch)) => Some(Item::Rows(at, batch)),
-        _ => None,
-    }
+    let (at, batch) = take_few(pieces, count)?;
+    Some(Item::Rows(at, batch))
 }
 
 /// Takes the piece at the front where it is a batch of so many rows.
@@ -430,6 +475,21 @@ fn take_sized(pieces: &mut VecDeque<Piece>, count: usize) -> Option<(u64, Batch)
 {
     match pieces.front() {
         Some(Piece::Rows(_, batch)) if batch.len() == count => (),
+        _ => return None,
+    }
+    match pieces.pop_front() {
+        Some(Piece::Rows(at, batch)) => Some((at, batch)),
+        _ => None,
+    }
+}
+
+/// Takes the piece at the front where it is a batch of at most `count` rows.
+fn take_few(pieces: &mut VecDeque<Piece>, count: usize) -> Option<(u64, Batch)>
+    ensures { MatchOption result (pieces.new.items ≡ pieces.old.items)
+        (λ taken. IsTakenWhole count pieces.old.items pieces.new.items (Rows taken.0 taken.1)) }
+{
+    match pieces.front() {
+        Some(Piece::Rows(_, batch)) if batch.len() <= count => (),
         _ => return None,
     }
     match pieces.pop_front() {

@@ -16,9 +16,7 @@ first_item rows (RowAt t s ∷ es) waits some = (item.Rows t (s ∷ []), record 
 first_item rows (TickAt t ∷ es) waits some = (item.Tick t, record { some = omega arith; few = omega (arith, some); first = refl })
 
 pub row_node_is : (k : Kind) → IsRowNode k → ((x : _) → k ≡ kind.Select x → ⊥) → ((x : List ℕ) → k ≡ kind.Project x → ⊥) → ⊥
-row_node_is kind.RangeWindow h s p = h
-row_node_is kind.SlideWindow h s p = h
-row_node_is kind.LatestWindow h s p = h
+row_node_is kind.Window h s p = h
 row_node_is (kind.Select steps) h s p = s steps refl
 row_node_is (kind.Project columns) h s p = p columns refl
 row_node_is kind.Join h s p = h

@@ -12,7 +12,7 @@ use Rattle.op_queue.specs.declared.item.Item.TheVariants.{Rows}
 use Rattle.group.specs.Turns as groups
 use Rattle.join.specs.Turns as join
 use Rattle.to_stream.specs.Turns as root
-use Rattle.windows.specs.Slide as slide
+use Rattle.windows.proofs.NextLemmas.{window_is_next, window_next}
 use Rattle.turn.specs.Turns.{Answered, Outs, Put, change_at, outs_at}
 use Rattle.turn.specs.declared.kinds.Kind.{Kind}
 use Rattle.turn.specs.declared.kinds.Kind.TheVariants as kind
@@ -23,25 +23,18 @@ use Rattle.operators.specs.Operators.{Belongs, HasNamedColumns, IsFinished, Plai
 use Rattle.operators.specs.Runs.{GivesFirst, HasGiven, HasPutTo, HasRunBelow, HasRunBelowLess, HasRunRoot, HasRunRootLess, IsAbove, IsElse, IsGiven, IsInHand, MayPut, MayPutFirst, MayRun, Stops, TakesItem, change_with, outs_with}
 use Rattle.operators.specs.declared.runs.Refused.{Refused}
 use Rattle.operators.specs.declared.runs.Refused.TheVariants.{Before, Within}
-use Rattle.operators.specs.States.{FitsState, HasColumns, HasStood, IsNext, Takes, near_of, range_after}
+use Rattle.operators.specs.States.{FitsState, HasColumns, HasStood, IsNext, Takes, near_of}
 use Rattle.operators.specs.declared.inboxes.Inbox.{Inbox}
 use Rattle.operators.specs.declared.inboxes.Inbox.TheVariants.{Between}
 use Rattle.operators.specs.declared.states.State.{State}
-use Rattle.operators.specs.declared.states.State.TheVariants.{Range, Slide, Latest, Nothing, Join, Groups, Root}
+use Rattle.operators.specs.declared.states.State.TheVariants.{Window, Nothing, Join, Groups, Root}
 use Rattle.operators.proofs.KindLemmas.{near_fits}
-use Rattle.operators.proofs.LatestLemmas.{latest_after, latest_next}
 
 -- ---- a turn by the state
 take_by : (k : Kind) (s : State) (side : Side) (i : Item) → Belongs k s → HasColumns s side i → HasNamedColumns k i → Takes s side i (change_at k i (near_of s side i)) → HasStood s side i → MayTake k s side i
-take_by kind.RangeWindow s side i b c n t st =
-    let r = subst (λ v. Takes v side i (change_at kind.RangeWindow i (near_of v side i))) b.1 t in
-    subst (λ v. MayTake kind.RangeWindow v side i) (sym b.1) (record { after = r.after; wide = r.wide })
-take_by kind.SlideWindow s side i b c n t st =
-    let r = subst (λ v. Takes v side i (change_at kind.SlideWindow i (near_of v side i))) b.1 t in
-    subst (λ v. MayTake kind.SlideWindow v side i) (sym b.1) r
-take_by kind.LatestWindow s side i b c n t st =
-    let r = subst (λ v. HasColumns v side i) b.1 c in
-    subst (λ v. MayTake kind.LatestWindow v side i) (sym b.1) r
+take_by kind.Window s side i b c n t st =
+    let r = subst (λ v. Takes v side i (change_at kind.Window i (near_of v side i))) b.1 t in
+    subst (λ v. MayTake kind.Window v side i) (sym b.1) r
 take_by (kind.Select steps) s side i b c n t st = subst (λ v. MayTake (kind.Select steps) v side i) (sym b) (record { row_node = tt; named = n })
 take_by (kind.Project columns) s side i b c n t st = subst (λ v. MayTake (kind.Project columns) v side i) (sym b) (record { row_node = tt; named = n })
 take_by kind.Join s side i b c n t st =
@@ -60,9 +53,7 @@ pub may_take : (o : PlainOperator) (side : Side) (i : Item) → TakesItem o side
 may_take o side i t = take_by o.kind o.state side i t.belongs t.columns t.named t.takes t.stood
 
 pub outs_same : (k : Kind) (s : State) (side : Side) (i : Item) → Belongs k s → outs_at k side i (near_of s side i) ≡ outs_from k s side i
-outs_same kind.RangeWindow s side i b = subst (λ v. outs_at kind.RangeWindow side i (near_of v side i) ≡ outs_from kind.RangeWindow v side i) (sym b.1) refl
-outs_same kind.SlideWindow s side i b = subst (λ v. outs_at kind.SlideWindow side i (near_of v side i) ≡ outs_from kind.SlideWindow v side i) (sym b.1) refl
-outs_same kind.LatestWindow s side i b = subst (λ v. outs_at kind.LatestWindow side i (near_of v side i) ≡ outs_from kind.LatestWindow v side i) (sym b.1) refl
+outs_same kind.Window s side i b = subst (λ v. outs_at kind.Window side i (near_of v side i) ≡ outs_from kind.Window v side i) (sym b.1) refl
 outs_same (kind.Select steps) s side i b = subst (λ v. outs_at (kind.Select steps) side i (near_of v side i) ≡ outs_from (kind.Select steps) v side i) (sym b) refl
 outs_same (kind.Project columns) s side i b = subst (λ v. outs_at (kind.Project columns) side i (near_of v side i) ≡ outs_from (kind.Project columns) v side i) (sym b) refl
 outs_same kind.Join s side i b = subst (λ v. outs_at kind.Join side i (near_of v side i) ≡ outs_from kind.Join v side i) (sym b.1) refl
@@ -72,9 +63,7 @@ outs_same (kind.Group g) s side i b =
 outs_same kind.ToStream s side i b = subst (λ v. outs_at kind.ToStream side i (near_of v side i) ≡ outs_from kind.ToStream v side i) (sym b.1) refl
 
 pub next_same : (k : Kind) (s : State) (side : Side) (i : Item) (new : State) → Belongs k s → IsAfterItem s side i new → IsNext s side i (change_at k i (near_of s side i)) new
-next_same kind.RangeWindow s side i new b = subst (λ v. IsAfterItem v side i new → IsNext v side i (change_at kind.RangeWindow i (near_of v side i)) new) (sym b.1) (λ h. h)
-next_same kind.SlideWindow s side i new b = subst (λ v. IsAfterItem v side i new → IsNext v side i (change_at kind.SlideWindow i (near_of v side i)) new) (sym b.1) (λ h. h)
-next_same kind.LatestWindow s side i new b = subst (λ v. IsAfterItem v side i new → IsNext v side i (change_at kind.LatestWindow i (near_of v side i)) new) (sym b.1) (λ h. h)
+next_same kind.Window s side i new b = subst (λ v. IsAfterItem v side i new → IsNext v side i (change_at kind.Window i (near_of v side i)) new) (sym b.1) (λ h. h)
 next_same (kind.Select steps) s side i new b = subst (λ v. IsAfterItem v side i new → IsNext v side i (change_at (kind.Select steps) i (near_of v side i)) new) (sym b) (λ h. h)
 next_same (kind.Project columns) s side i new b = subst (λ v. IsAfterItem v side i new → IsNext v side i (change_at (kind.Project columns) i (near_of v side i)) new) (sym b) (λ h. h)
 next_same kind.Join s side i new b = subst (λ v. IsAfterItem v side i new → IsNext v side i (change_at kind.Join i (near_of v side i)) new) (sym b.1) (λ h. h)
@@ -85,18 +74,14 @@ next_same kind.ToStream s side i new b = subst (λ v. IsAfterItem v side i new �
 
 -- each state has a next one
 abbrev next_state : State → Side → Item → State
-next_state (Range s) side i = Range (range_after s i)
-next_state (Slide s) side i = Slide (slide.next s i)
-next_state (Latest s) side i = Latest (latest_next s i)
+next_state (Window s) side i = Window (window_next s i)
 next_state Nothing side i = Nothing
 next_state (Join s) side i = Join (join.next s side i)
 next_state (Groups s) side i = Groups (groups.next s i (groups.change s.group i (groups.near s i)))
 next_state (Root s) side i = Root (root.next s i)
 
 is_next : (s : State) (side : Side) (i : Item) → IsAfterItem s side i (next_state s side i)
-is_next (Range s) side i = refl
-is_next (Slide s) side i = refl
-is_next (Latest s) side i = latest_after s i
+is_next (Window s) side i = window_is_next s i
 is_next Nothing side i = refl
 is_next (Join s) side i = refl
 is_next (Groups s) side i = refl
@@ -110,9 +95,7 @@ record AnswersAt (k : Kind) (s : State) (side : Side) (i : Item) : Type 0 where
   fits : FitsState s i (near_of s side i)
 
 answers_at : (k : Kind) (s : State) (side : Side) (i : Item) → Belongs k s → MayTake k s side i → IsGiven (outs_at k side i (near_of s side i)) → AnswersAt k s side i
-answers_at kind.RangeWindow s side i b t g = elim (subst (λ v. IsGiven (outs_at kind.RangeWindow side i (near_of v side i))) b.1 g) [ ]
-answers_at kind.SlideWindow s side i b t g = elim (subst (λ v. IsGiven (outs_at kind.SlideWindow side i (near_of v side i))) b.1 g) [ ]
-answers_at kind.LatestWindow s side i b t g = elim (subst (λ v. IsGiven (outs_at kind.LatestWindow side i (near_of v side i))) b.1 g) [ ]
+answers_at kind.Window s side i b t g = elim (subst (λ v. IsGiven (outs_at kind.Window side i (near_of v side i))) b.1 g) [ ]
 answers_at (kind.Select steps) s side i b t g = elim (subst (λ v. IsGiven (outs_at (kind.Select steps) side i (near_of v side i))) b g) [ ]
 answers_at (kind.Project columns) s side i b t g = elim (subst (λ v. IsGiven (outs_at (kind.Project columns) side i (near_of v side i))) b g) [ ]
 answers_at kind.Join s side i b t g = elim (subst (λ v. IsGiven (outs_at kind.Join side i (near_of v side i))) b.1 g) [ ]
@@ -231,9 +214,7 @@ record TookQuietly (k : Kind) (s : State) (side : Side) (i : Item) (s2 : State) 
   silent : IsSilent (outs_from k s side i)
 
 took_quietly : (k : Kind) (s : State) (side : Side) (t : ℕ) (b : List (Bool × Row)) (s2 : State) → TookRows s b s2 → TookQuietly k s side (Rows t b) s2
-took_quietly k (Range s) side t b s2 h = elim h [ ]
-took_quietly k (Slide s) side t b s2 h = elim h [ ]
-took_quietly k (Latest s) side t b s2 h = elim h [ ]
+took_quietly k (Window s) side t b s2 h = elim h [ ]
 took_quietly k Nothing side t b s2 h = elim h [ ]
 took_quietly k (Join s) side t b s2 h = elim h [ ]
 took_quietly k (Groups s) side t b s2 h = record { fits = tt; next = h; silent = refl }

@@ -1,6 +1,5 @@
 pub mod InboxLemmas
 pub mod KindLemmas
-pub mod LatestLemmas
 pub mod InPlaceLemmas
 pub mod QuietLemmas
 pub mod RefusedLemmas

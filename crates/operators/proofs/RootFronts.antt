@@ -16,7 +16,7 @@ use Rattle.operators.specs.InPlace.{MayAnswer}
 use Rattle.operators.specs.Inboxes.{IsDropped}
 use Rattle.operators.specs.declared.inboxes.Inbox.TheVariants.{Between}
 use Rattle.operators.specs.declared.states.State as states
-use Rattle.operators.specs.declared.states.State.TheVariants.{Range, Slide, Latest, Nothing, Join, Groups, Root}
+use Rattle.operators.specs.declared.states.State.TheVariants.{Window, Nothing, Join, Groups, Root}
 
 -- a batch that stands first is no longer than what waits
 pub batch_few : (rows n : ℕ) (w : Waiting) (t : ℕ) (b : List (Bool × Row)) → n ≡ length b → IsFrontBatch rows w t b → n ≤ length w.entries
@@ -56,9 +56,7 @@ item_answered rows n log s s1 s2 w w1 w2 given given2 i e part value many d next
 
 -- only roots answer
 pub root_answers : (s : states.State) (i : Item) → MayAnswer s i → ((x : _) → s ≡ Root x → ⊥) → ⊥
-root_answers (Range s) i may no_root = may
-root_answers (Slide s) i may no_root = may
-root_answers (Latest s) i may no_root = may
+root_answers (Window s) i may no_root = may
 root_answers Nothing i may no_root = may
 root_answers (Join s) i may no_root = may
 root_answers (Groups s) i may no_root = may

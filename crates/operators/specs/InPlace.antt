@@ -3,7 +3,7 @@ use Rattle.std.specs.Prelude.{ℕ, ◌≡◌, ◌<◌, Bool, true, List, [], ◌
 use Rattle.values.specs.Row.{Row}
 use Rattle.column.specs.declared.batch.Side.{Side}
 use Rattle.op_queue.specs.Entries.{Entry, IsForward}
-use Rattle.op_queue.specs.Items.{entries_of, item_instant}
+use Rattle.op_queue.specs.Items.{entries_of}
 use Rattle.op_queue.specs.Queues.{HasGained, Waiting}
 use Rattle.op_queue.specs.declared.item.Item.{Item}
 use Rattle.op_queue.specs.declared.item.Item.TheVariants as item
@@ -15,27 +15,20 @@ use Rattle.join.specs.Turns.{JoinState, side_of}
 use Rattle.row_nodes.specs.Project.{projected}
 use Rattle.row_nodes.specs.Select.{selected}
 use Rattle.to_stream.specs.Turns as root
-use Rattle.windows.specs.Latest as latest
-use Rattle.windows.specs.Range as range
-use Rattle.windows.specs.Range.{IsAfter, RangeState}
-use Rattle.windows.specs.Slide as slide
-use Rattle.windows.specs.Widths.{IsItemWide}
+use Rattle.windows.specs.Windows as window
 use Rattle.turn.specs.Turns.{Answered, Outs, Put}
 use Rattle.turn.specs.declared.kinds.Kind.{Kind}
 use Rattle.turn.specs.declared.kinds.Kind.TheVariants as kind
 use Rattle.operators.specs.Inboxes.{all_begins, all_entries, begins_in, is_fed, queued}
 use Rattle.operators.specs.Operators.{HasNamedColumns}
-use Rattle.operators.specs.States.{IsLatestAfter, TakesSlide, range_after}
+use Rattle.operators.specs.States.{IsWindowAfter}
 use Rattle.operators.specs.declared.inboxes.Inbox.{Inbox}
 use Rattle.operators.specs.declared.states.State.{State}
-use Rattle.operators.specs.declared.states.State.TheVariants.{Range, Slide, Latest, Nothing, Join}
-use Rattle.operators.specs.declared.states.State.TheVariants.{Groups, Root}
+use Rattle.operators.specs.declared.states.State.TheVariants.{Window, Nothing, Join, Groups, Root}
 
 -- WHAT A TURN OF A STATE IS; the kind says no more than what Select and Project do
 abbrev pub IsRowNode : Kind → Type 0
-IsRowNode kind.RangeWindow = ⊥
-IsRowNode kind.SlideWindow = ⊥
-IsRowNode kind.LatestWindow = ⊥
+IsRowNode kind.Window = ⊥
 IsRowNode (kind.Select steps) = Unit {0}
 IsRowNode (kind.Project columns) = Unit {0}
 IsRowNode kind.Join = ⊥
@@ -43,18 +36,12 @@ IsRowNode (kind.Group g) = ⊥
 IsRowNode kind.ToStream = ⊥
 
 abbrev pub row_outs : Kind → Item → List (Entry Row)
-row_outs kind.RangeWindow i = []
-row_outs kind.SlideWindow i = []
-row_outs kind.LatestWindow i = []
+row_outs kind.Window i = []
 row_outs (kind.Select steps) i = selected steps i
 row_outs (kind.Project columns) i = projected columns i
 row_outs kind.Join i = []
 row_outs (kind.Group g) i = []
 row_outs kind.ToStream i = []
-
-pub record MayTakeRange (s : RangeState) (i : Item) : Type 0 where
-  pub after : IsAfter (item_instant i) s.held
-  pub wide : IsItemWide s.width i
 
 pub record MayTakeRows (k : Kind) (i : Item) : Type 0 where
   pub row_node : IsRowNode k
@@ -66,27 +53,21 @@ pub record MayTakeSide (s : JoinState) (side : Side) (i : Item) : Type 0 where
   pub legal : MayLeave s side i
 
 abbrev pub MayTake : Kind → State → Side → Item → Type 0
-MayTake k (Range s) side i = MayTakeRange s i
-MayTake k (Slide s) side i = TakesSlide s i
-MayTake k (Latest s) side i = IsItemWide s.width i
+MayTake k (Window s) side i = window.MayTake s i
 MayTake k Nothing side i = MayTakeRows k i
 MayTake k (Join s) side i = MayTakeSide s side i
 MayTake k (Groups s) side i = RoomFor s i
 MayTake k (Root s) side i = root.HasRoom s i
 
 abbrev pub outs_from : Kind → State → Side → Item → Outs
-outs_from k (Range s) side i = Put (range.out i (range.near s i))
-outs_from k (Slide s) side i = Put (slide.out i (slide.near s i))
-outs_from k (Latest s) side i = Put (latest.out i (latest.near s i))
+outs_from k (Window s) side i = Put (window.out i (window.near s i))
 outs_from k Nothing side i = Put (row_outs k i)
 outs_from k (Join s) side i = Put (join.out side i (join.near s side i))
 outs_from k (Groups s) side i = Put (groups.out s.group i (groups.near s i))
 outs_from k (Root s) side i = Answered (root.out i (root.near s i))
 
 abbrev pub IsAfterItem : State → Side → Item → State → Type 0
-IsAfterItem (Range s) side i new = new ≡ Range (range_after s i)
-IsAfterItem (Slide s) side i new = new ≡ Slide (slide.next s i)
-IsAfterItem (Latest s) side i new = IsLatestAfter s i new
+IsAfterItem (Window s) side i new = IsWindowAfter s i new
 IsAfterItem Nothing side i new = new ≡ Nothing
 IsAfterItem (Join s) side i new = new ≡ Join (join.next s side i)
 IsAfterItem (Groups s) side i new =
@@ -99,9 +80,7 @@ rows_in (item.Rows t b) = b
 rows_in (item.Tick t) = []
 
 abbrev pub TookRows : State → List (Bool × Row) → State → Type 0
-TookRows (Range s) b new = ⊥
-TookRows (Slide s) b new = ⊥
-TookRows (Latest s) b new = ⊥
+TookRows (Window s) b new = ⊥
 TookRows Nothing b new = ⊥
 TookRows (Join s) b new = ⊥
 TookRows (Groups s) b new = new ≡ Groups (groups.rows_after s b)
@@ -113,27 +92,21 @@ pub record HasTaken (s : State) (i : Item) (n : ℕ) (new : State) : Type 0 wher
 
 -- of a root: it takes the item, what it answers, and the state after it
 abbrev pub MayAnswer : State → Item → Type 0
-MayAnswer (Range s) i = ⊥
-MayAnswer (Slide s) i = ⊥
-MayAnswer (Latest s) i = ⊥
+MayAnswer (Window s) i = ⊥
 MayAnswer Nothing i = ⊥
 MayAnswer (Join s) i = ⊥
 MayAnswer (Groups s) i = ⊥
 MayAnswer (Root s) i = root.HasRoom s i
 
 abbrev pub answers_from : State → Item → List (ℕ × Row)
-answers_from (Range s) i = []
-answers_from (Slide s) i = []
-answers_from (Latest s) i = []
+answers_from (Window s) i = []
 answers_from Nothing i = []
 answers_from (Join s) i = []
 answers_from (Groups s) i = []
 answers_from (Root s) i = root.out i (root.near s i)
 
 abbrev pub after_answers : State → Item → State
-after_answers (Range s) i = Range s
-after_answers (Slide s) i = Slide s
-after_answers (Latest s) i = Latest s
+after_answers (Window s) i = Window s
 after_answers Nothing i = Nothing
 after_answers (Join s) i = Join s
 after_answers (Groups s) i = Groups s

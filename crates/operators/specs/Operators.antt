@@ -15,9 +15,7 @@ use Rattle.group.specs.Groups.{GroupBy}
 use Rattle.group.specs.Turns.{GroupState}
 use Rattle.join.specs.Turns.{JoinState}
 use Rattle.to_stream.specs.Turns as root
-use Rattle.windows.specs.Latest.{LatestState}
-use Rattle.windows.specs.Range.{RangeState}
-use Rattle.windows.specs.Slide.{SlideState}
+use Rattle.windows.specs.Windows.{WindowState}
 use Rattle.row_nodes.specs.Project.{AreColumns}
 use Rattle.row_nodes.specs.Select.{FitItem}
 use Rattle.turn.specs.declared.kinds.Kind.{Kind}
@@ -27,8 +25,7 @@ use Rattle.operators.specs.Inboxes.{IsDropped, all_begins, begins_in, entries_in
 use Rattle.operators.specs.States.{IsNext, usable}
 use Rattle.operators.specs.declared.inboxes.Inbox.{Inbox}
 use Rattle.operators.specs.declared.states.State.{State}
-use Rattle.operators.specs.declared.states.State.TheVariants.{Range, Slide, Latest, Nothing, Join}
-use Rattle.operators.specs.declared.states.State.TheVariants.{Groups, Root}
+use Rattle.operators.specs.declared.states.State.TheVariants.{Window, Nothing, Join, Groups, Root}
 
 -- what it does, what it holds, and what waits on its
 -- sides; an operator with one input has it on the left
@@ -51,14 +48,8 @@ abbrev pub waiting : PlainOperator → Closed → Side → List (Entry Row)
 waiting o log side = entries_in (inbox_of o side) log
 
 -- THE STATE IS ONE OF THE KIND
-abbrev pub IsOfRange : State → Type 0
-IsOfRange s = (held : RangeState) × (s ≡ Range held)
-
-abbrev pub IsOfSlide : State → Type 0
-IsOfSlide s = (held : SlideState) × (s ≡ Slide held)
-
-abbrev pub IsOfLatest : State → Type 0
-IsOfLatest s = (held : LatestState) × (s ≡ Latest held)
+abbrev pub IsOfWindow : State → Type 0
+IsOfWindow s = (held : WindowState) × (s ≡ Window held)
 
 abbrev pub IsOfJoin : State → Type 0
 IsOfJoin s = (held : JoinState) × (s ≡ Join held)
@@ -70,9 +61,7 @@ abbrev pub IsOfRoot : State → Type 0
 IsOfRoot s = (held : root.State) × (s ≡ Root held)
 
 abbrev pub Belongs : Kind → State → Type 0
-Belongs kind.RangeWindow s = IsOfRange s
-Belongs kind.SlideWindow s = IsOfSlide s
-Belongs kind.LatestWindow s = IsOfLatest s
+Belongs kind.Window s = IsOfWindow s
 Belongs (kind.Select steps) s = s ≡ Nothing
 Belongs (kind.Project columns) s = s ≡ Nothing
 Belongs kind.Join s = IsOfJoin s
@@ -81,9 +70,7 @@ Belongs kind.ToStream s = IsOfRoot s
 
 -- the item has the columns that Select's condition or Project's list speaks of
 abbrev pub HasNamedColumns : Kind → Item → Type 0
-HasNamedColumns kind.RangeWindow i = Unit {0}
-HasNamedColumns kind.SlideWindow i = Unit {0}
-HasNamedColumns kind.LatestWindow i = Unit {0}
+HasNamedColumns kind.Window i = Unit {0}
 HasNamedColumns (kind.Select steps) i = FitItem steps i
 HasNamedColumns (kind.Project columns) i = AreColumns columns i
 HasNamedColumns kind.Join i = Unit {0}

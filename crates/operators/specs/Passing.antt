@@ -1,25 +1,20 @@
 -- An operator passes instants at which it has nothing to do.
 use Rattle.std.specs.Prelude.{ℕ, ◌≡◌, ◌-◌, false, []}
-use Rattle.std.specs.List.{filter}
 use Rattle.op_queue.specs.Cursors.{HasLeft, IsClear}
 use Rattle.op_queue.specs.Logs.{Closed}
 use Rattle.to_stream.specs.Turns as root
-use Rattle.windows.specs.Range.{is_past}
-use Rattle.windows.specs.Slide.{Stays}
+use Rattle.windows.specs.Windows.{Stays}
 use Rattle.operators.specs.Inboxes.{entries_in}
 use Rattle.operators.specs.Operators.{PlainOperator}
 use Rattle.operators.specs.declared.inboxes.Inbox.{Inbox}
 use Rattle.operators.specs.declared.inboxes.Inbox.TheVariants.{First, Between}
 use Rattle.operators.specs.declared.states.State.{State}
-use Rattle.operators.specs.declared.states.State.TheVariants.{Range, Slide, Latest, Nothing, Join}
-use Rattle.operators.specs.declared.states.State.TheVariants.{Groups, Root}
+use Rattle.operators.specs.declared.states.State.TheVariants.{Window, Nothing, Join, Groups, Root}
 
 -- NOTHING IS TO BE DONE from the instant n to below b: no row leaves a window or enters it, no side
 -- of a join has ticked, no group was touched, and nothing has come to a root that would answer
 abbrev pub IsQuiet : ℕ → ℕ → State → Type 0
-IsQuiet n b (Range s) = filter (is_past s.span (b - 1)) s.held ≡ []
-IsQuiet n b (Slide s) = Stays n b s
-IsQuiet n b (Latest s) = Unit {0}
+IsQuiet n b (Window s) = Stays n b s
 IsQuiet n b Nothing = Unit {0}
 IsQuiet n b (Join s) = (s.left.ticked ≡ false) × (s.right.ticked ≡ false)
 IsQuiet n b (Groups s) = s.touched ≡ []
@@ -27,9 +22,7 @@ IsQuiet n b (Root s) = root.IsStill s
 
 -- the state behind these instants: a root has ticked
 abbrev pub state_passed : ℕ → State → State
-state_passed b (Range s) = Range s
-state_passed b (Slide s) = Slide s
-state_passed b (Latest s) = Latest s
+state_passed b (Window s) = Window s
 state_passed b Nothing = Nothing
 state_passed b (Join s) = Join s
 state_passed b (Groups s) = Groups s

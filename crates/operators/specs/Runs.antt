@@ -22,9 +22,7 @@ use Rattle.operators.specs.declared.runs.Refused.TheVariants.{Before, Within}
 
 -- the root of a query gives answers
 abbrev pub is_root : Kind → Bool
-is_root kind.RangeWindow = false
-is_root kind.SlideWindow = false
-is_root kind.LatestWindow = false
+is_root kind.Window = false
 is_root (kind.Select steps) = false
 is_root (kind.Project columns) = false
 is_root kind.Join = false

@@ -3,18 +3,14 @@ ghost use Rattle.std.specs.Prelude.{◌≡◌, ◌++◌, IfErr, OnErr, OnOk};
 ghost use Rattle.op_queue.specs.Entries.{IsForward};
 ghost use Rattle.op_queue.specs.Queues.{HasGained, HasGrown};
 ghost use Rattle.group.specs.Turns as spec;
-ghost use Rattle.turn.specs.Turns.{FitsRange, FitsLatest, FitsSlide};
+ghost use Rattle.turn.specs.Turns.{FitsWindow};
 ghost use Rattle.turn.specs.declared.excerpts.Excerpt.TheVariants as nears;
 ghost use Rattle.operators.specs.InPlace.{HasQueued, HasTaken, HaveCome, IsAfterItem, MayComeAll};
-ghost use Rattle.operators.specs.InPlace.{MayQueue, MayTake, MayTakeRange};
-ghost use Rattle.operators.specs.InPlace.{outs_from};
+ghost use Rattle.operators.specs.InPlace.{MayQueue, MayTake, outs_from};
 ghost use Rattle.operators.specs.Runs.{StopsAt};
 ghost use Rattle.operators.specs.declared.states.State.TheVariants.{Groups};
-ghost use Rattle.operators.specs.States.{FitsState, LatestAfter, TakesSlide, near_of, range_after};
-ghost use Rattle.windows.specs.Latest as latest;
-ghost use Rattle.windows.specs.Range as ranges;
-ghost use Rattle.windows.specs.Slide as slides;
-ghost use Rattle.windows.specs.Widths.{IsItemWide};
+ghost use Rattle.operators.specs.States.{FitsState, near_of};
+ghost use Rattle.windows.specs.Windows as window_turns;
 
 use crate::inboxes::{Inbox, with_queue};
 use crate::runs::untaken;
@@ -25,7 +21,7 @@ use op_queue::{Item, Queue};
 use row_nodes::{run_project, run_select};
 use std::alloc::{AllocError, Global};
 use turn::Kind;
-use windows::{LatestWindow, RangeWindow, SlideWindow};
+use windows::Window;
 
 impl State {
     /// Takes an item, and appends the turn's outputs to an inbox.
@@ -87,8 +83,8 @@ impl State {
     /// Takes an item, and pushes the turn's outputs to the back of a queue.
     ///
     /// # Errors
-    /// The number of rows that were taken, when out of memory. Exactly these were, and the queue has
-    /// only grown by rows of one instant.
+    /// The number of rows that were taken, when out of memory. Exactly these were, and the queue
+    /// has only grown by rows of one instant.
     pub(crate) fn run(
         &mut self,
         alloc: Global,
@@ -108,9 +104,7 @@ impl State {
         ensures fits { FitsState self.old item (near_of self.old side item) }
     {
         match (self, kind) {
-            (State::Range(window), _) => untaken(run_range(alloc, window, item, queue)),
-            (State::Slide(window), _) => untaken(run_slide(alloc, window, item, queue)),
-            (State::Latest(window), _) => untaken(run_latest(alloc, window, item, queue)),
+            (State::Window(window), _) => untaken(run_window(alloc, window, item, queue)),
             (State::Nothing, Kind::Select(steps)) => {
                 untaken(run_select(alloc, &steps.steps, item, queue))
             }
@@ -153,59 +147,22 @@ pub(crate) fn run_groups_item(
     }
 }
 
-fn run_range(
+fn run_window(
     alloc: Global,
-    window: &mut RangeWindow,
+    window: &mut Window,
     item: Item,
     queue: &mut Queue,
 ) -> Result<(), AllocError>
-    requires may { MayTakeRange window.old item }
+    requires may { window_turns.MayTake window.old item }
     requires forward { IsForward (queue.old.entries
-        ++ ranges.out item (ranges.near window.old item)) }
-    ensures next { OnOk result (window.new ≡ range_after window.old item) }
+        ++ window_turns.out item (window_turns.near window.old item)) }
+    ensures next { OnOk result (window_turns.IsNext window.old item window.new) }
     ensures gained { OnOk result
-        (HasGained (ranges.out item (ranges.near window.old item)) queue.old queue.new) }
+        (HasGained (window_turns.out item (window_turns.near window.old item))
+        queue.old queue.new) }
     ensures err { OnErr result (window.new ≡ window.old) }
     ensures grown { OnErr result (HasGrown queue.old queue.new) }
-    ensures fits { FitsRange (nears.Leaving (ranges.near window.old item)) }
-{
-    window.run(alloc, item, queue)
-}
-
-fn run_slide(
-    alloc: Global,
-    window: &mut SlideWindow,
-    item: Item,
-    queue: &mut Queue,
-) -> Result<(), AllocError>
-    requires may { TakesSlide window.old item }
-    requires forward { IsForward (queue.old.entries
-        ++ slides.out item (slides.near window.old item)) }
-    ensures next { OnOk result (window.new ≡ slides.next window.old item) }
-    ensures gained { OnOk result
-        (HasGained (slides.out item (slides.near window.old item)) queue.old queue.new) }
-    ensures err { OnErr result (window.new ≡ window.old) }
-    ensures grown { OnErr result (HasGrown queue.old queue.new) }
-    ensures fits { FitsSlide (nears.Sliding (slides.near window.old item)) }
-{
-    window.run(alloc, item, queue)
-}
-
-fn run_latest(
-    alloc: Global,
-    window: &mut LatestWindow,
-    item: Item,
-    queue: &mut Queue,
-) -> Result<(), AllocError>
-    requires wide { IsItemWide window.old.width item }
-    requires forward { IsForward (queue.old.entries
-        ++ latest.out item (latest.near window.old item)) }
-    ensures next { OnOk result (LatestAfter window.old item window.new) }
-    ensures gained { OnOk result
-        (HasGained (latest.out item (latest.near window.old item)) queue.old queue.new) }
-    ensures err { OnErr result (window.new ≡ window.old) }
-    ensures grown { OnErr result (HasGrown queue.old queue.new) }
-    ensures fits { FitsLatest item (nears.Fallen (latest.near window.old item)) }
+    ensures fits { FitsWindow item (nears.Window (window_turns.near window.old item)) }
 {
     window.run(alloc, item, queue)
 }

@@ -3,8 +3,7 @@ use Rattle.std.specs.Prelude.{ℕ, ◌+◌, ◌≡◌, ◌<◌, ◌≤◌, Optio
 use Rattle.std.specs.Prelude.{map, length, get_or}
 use Rattle.std.specs.List.{AllByRecursion}
 use Rattle.values.specs.declared.TheConstants.{MAX_COLUMNS}
-use Rattle.values.specs.Row.{Row}
-use Rattle.values.specs.Resolved.{condition_of}
+use Rattle.values.specs.Resolved.{condition_of, window_of}
 use Rattle.values.specs.declared.resolved.ListItem.{ListItem}
 use Rattle.values.specs.declared.resolved.Window.{Window}
 use Rattle.values.specs.declared.resolved.Window.TheVariants as window
@@ -14,7 +13,7 @@ use Rattle.group.specs.Groups.{GroupBy, column_at, once_each}
 use Rattle.group.specs.Turns as groups
 use Rattle.join.specs.Turns as join
 use Rattle.row_nodes.specs.Steps.{IsOfOneSource}
-use Rattle.windows.specs.Latest.{LatestState, held_in}
+use Rattle.windows.specs.Windows.{Begins, IsFormed, WindowState}
 use Rattle.turn.specs.declared.kinds.Kind.{Kind}
 use Rattle.turn.specs.declared.kinds.Kind.TheVariants as kind
 use Rattle.operators.specs.Inboxes.{IsInboxWithin, entries_in, is_fed}
@@ -51,47 +50,22 @@ widths_of vs nodes = widths_from vs [] nodes
 abbrev pub window_at : List Window → ℕ → Window
 window_at ws s = get_or ws s window.Unbounded
 
-abbrev pub window_kind : Window → Kind
-window_kind (window.Range n) = kind.RangeWindow
-window_kind (window.RangeSlide n l) = kind.SlideWindow
-window_kind window.Unbounded = kind.RangeWindow
-window_kind (window.LastRows columns n) = kind.LatestWindow
-
 abbrev pub grouping : List ℕ → List ListItem → GroupBy
 grouping by items = record { by = map column_at by; items = items }
 
-abbrev pub kind_made : List Window → List ℕ → Node → Kind
-kind_made ws widths (Source s) = window_kind (window_at ws s)
-kind_made ws widths (Select i cs) = kind.Select (all_steps (conditions_of cs.items))
-kind_made ws widths (Join i j keys) = kind.Join
-kind_made ws widths (Project i places) = kind.Project places.items
-kind_made ws widths (Group i by items) = kind.Group (grouping by.items items.items)
-kind_made ws widths (Distinct i) = kind.Group (once_each (get_or widths i 0))
-kind_made ws widths (ToStream i op) = kind.ToStream
+abbrev pub kind_made : List ℕ → Node → Kind
+kind_made widths (Source s) = kind.Window
+kind_made widths (Select i cs) = kind.Select (all_steps (conditions_of cs.items))
+kind_made widths (Join i j keys) = kind.Join
+kind_made widths (Project i places) = kind.Project places.items
+kind_made widths (Group i by items) = kind.Group (grouping by.items items.items)
+kind_made widths (Distinct i) = kind.Group (once_each (get_or widths i 0))
+kind_made widths (ToStream i op) = kind.ToStream
 
 -- WHAT IT HOLDS: nothing has come yet
-abbrev pub range_made : Option ℕ → ℕ → State
-range_made span w = state.Range (record { span = span; width = w; held = [] })
-
-abbrev pub slide_made : ℕ → ℕ → ℕ → State
-slide_made span step w = state.Slide
-    (record { span = span; step = step; width = w; held = []; shown = 0 })
-
-pub record IsLatestMade (by : List ℕ) (n w : ℕ) (s : LatestState) : Type 0 where
-  pub columns : s.columns ≡ by
-  pub count : s.count ≡ n
-  pub width : s.width ≡ w
-  pub held : (k : Row) → held_in s.entries k ≡ []
-
-abbrev pub LatestStarts : List ℕ → ℕ → ℕ → State → Type 0
-LatestStarts columns n w s = (held : LatestState) × (s ≡ state.Latest held)
-    × IsLatestMade columns n w held
-
 abbrev pub WindowStarts : Window → ℕ → State → Type 0
-WindowStarts (window.Range n) w s = s ≡ range_made (Some n) w
-WindowStarts (window.RangeSlide n l) w s = s ≡ slide_made n l w
-WindowStarts window.Unbounded w s = s ≡ range_made None w
-WindowStarts (window.LastRows columns n) w s = LatestStarts columns.items n w s
+WindowStarts w width s = (held : WindowState) × (s ≡ state.Window held)
+    × Begins (window_of w) width held
 
 abbrev pub key_pair : Key → ℕ × ℕ
 key_pair k = (k.left, k.right)
@@ -137,29 +111,34 @@ InboxStarts places start (ToStream j op) i = i ≡ nothing_waits
 -- is `start` and whose sources' streams were so long when it was registered
 pub record IsMade (ws : List Window) (vs widths places : List ℕ) (start : ℕ) (node : Node)
     (o : PlainOperator) : Type 0 where
-  pub kind : o.kind ≡ kind_made ws widths node
+  pub kind : o.kind ≡ kind_made widths node
   pub state : StateStarts ws vs widths node o.state
   pub left : InboxStarts places start node o.left
   pub right : o.right ≡ nothing_waits
 
--- THE CALLER'S CONDITIONS, which the plan of a query that a row has room for meets: lists of
--- columns are of at most MAX_COLUMNS, a window moves at the multiples of one or more, and
--- conditions speak of the one row that goes between operators
-abbrev pub IsMakeableWindow : Window → Type 0
-IsMakeableWindow (window.Range n) = Unit {0}
-IsMakeableWindow (window.RangeSlide n l) = 0 < l
-IsMakeableWindow window.Unbounded = Unit {0}
-IsMakeableWindow (window.LastRows columns n) = length columns.items ≤ MAX_COLUMNS
-
-abbrev pub IsMakeable : List Window → List ℕ → Node → Type 0
-IsMakeable ws widths (Source s) = IsMakeableWindow (window_at ws s)
-IsMakeable ws widths (Select i cs) = AllByRecursion (λ c. IsOfOneSource (condition_of c)) cs.items
-IsMakeable ws widths (Join i j keys) = get_or widths i 0 + get_or widths j 0 ≤ MAX_COLUMNS
-IsMakeable ws widths (Project i places) = length places.items ≤ MAX_COLUMNS
-IsMakeable ws widths (Group i by items) =
+-- of what a node's kind is made of: lists of columns are of at most MAX_COLUMNS, and conditions
+-- speak of the one row that goes between operators
+abbrev pub HasMakeableKind : List ℕ → Node → Type 0
+HasMakeableKind widths (Source s) = Unit {0}
+HasMakeableKind widths (Select i cs) =
+    AllByRecursion (λ c. IsOfOneSource (condition_of c)) cs.items
+HasMakeableKind widths (Join i j keys) = get_or widths i 0 + get_or widths j 0 ≤ MAX_COLUMNS
+HasMakeableKind widths (Project i places) = length places.items ≤ MAX_COLUMNS
+HasMakeableKind widths (Group i by items) =
     (length by.items ≤ MAX_COLUMNS) × (length items.items ≤ MAX_COLUMNS)
-IsMakeable ws widths (Distinct i) = get_or widths i 0 ≤ MAX_COLUMNS
-IsMakeable ws widths (ToStream i op) = Unit {0}
+HasMakeableKind widths (Distinct i) = get_or widths i 0 ≤ MAX_COLUMNS
+HasMakeableKind widths (ToStream i op) = Unit {0}
+
+-- THE CALLER'S CONDITIONS, which the plan of a query that a row has room for meets: so of its kind,
+-- and a window moves at the multiples of one or more
+abbrev pub IsMakeable : List Window → List ℕ → Node → Type 0
+IsMakeable ws widths (Source s) = IsFormed (window_at ws s)
+IsMakeable ws widths (Select i cs) = HasMakeableKind widths (Select i cs)
+IsMakeable ws widths (Join i j keys) = HasMakeableKind widths (Join i j keys)
+IsMakeable ws widths (Project i places) = HasMakeableKind widths (Project i places)
+IsMakeable ws widths (Group i by items) = HasMakeableKind widths (Group i by items)
+IsMakeable ws widths (Distinct i) = HasMakeableKind widths (Distinct i)
+IsMakeable ws widths (ToStream i op) = HasMakeableKind widths (ToStream i op)
 
 -- each operator of the plan in its place
 abbrev pub AreMade : List Window → List ℕ → List ℕ → List ℕ → ℕ → List Node

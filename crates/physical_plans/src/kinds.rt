@@ -6,8 +6,7 @@ ghost use Rattle.group.specs.Groups.{column_at, once_each};
 ghost use Rattle.names.specs.Views.{conditions_of};
 ghost use Rattle.row_nodes.specs.Steps.{IsOfOneSource};
 ghost use Rattle.turn.specs.declared.kinds.Kind.TheVariants as kind;
-ghost use Rattle.physical_plans.specs.Beginnings.{IsMakeable, grouping, kind_made, window_at};
-ghost use Rattle.physical_plans.specs.Beginnings.{window_kind};
+ghost use Rattle.physical_plans.specs.Beginnings.{HasMakeableKind, grouping, kind_made};
 ghost use Rattle.physical_plans.specs.Conjuncts.{all_steps};
 
 use crate::conjuncts::all_steps;
@@ -15,39 +14,21 @@ use group::GroupBy;
 use plan::Node;
 use std::alloc::{AllocError, Global};
 use turn::{ColumnList, Kind, StepList};
-use values::{Condition, ListItem, MAX_COLUMNS, SourceColumn, Window};
+use values::{Condition, ListItem, MAX_COLUMNS, SourceColumn};
 
-/// Makes what an operator does. It reads the sources' windows, and how many columns each operator's
-/// rows have.
-pub(crate) fn kind_made(
-    alloc: Global,
-    windows: &[Window],
-    widths: &[usize],
-    node: &Node,
-) -> Result<Kind, AllocError>
-    requires { IsMakeable windows.now widths.now node.now }
-    ensures { IfOk result (λ kind. kind ≡ kind_made windows.now widths.now node.now) }
+/// Makes what an operator does. It reads how many columns each operator's rows have.
+pub(crate) fn kind_made(alloc: Global, widths: &[usize], node: &Node) -> Result<Kind, AllocError>
+    requires { HasMakeableKind widths.now node.now }
+    ensures { IfOk result (λ kind. kind ≡ kind_made widths.now node.now) }
 {
     match node {
-        Node::Window(source) => Ok(window_kind(windows, *source)),
+        Node::Window(_) => Ok(Kind::Window),
         Node::Select(_, conditions) => select_kind(alloc, conditions),
         Node::Join(_, _, _) => Ok(Kind::Join),
         Node::Project(_, places) => project_kind(alloc, places),
         Node::Group(_, by, items) => Ok(Kind::Group(grouping(alloc, by, items)?)),
         Node::Distinct(input) => Ok(Kind::Group(once_each(alloc, widths, *input)?)),
         Node::ToStream(_, _) => Ok(Kind::ToStream),
-    }
-}
-
-fn window_kind(windows: &[Window], source: usize) -> Kind
-    ensures { result ≡ window_kind (window_at windows.now source) }
-{
-    match windows.get(source) {
-        Some(Window::Range(_)) => Kind::RangeWindow,
-        Some(Window::RangeSlide(_, _)) => Kind::SlideWindow,
-        Some(Window::Unbounded) => Kind::RangeWindow,
-        Some(Window::LastRows(_, _)) => Kind::LatestWindow,
-        None => Kind::RangeWindow,
     }
 }
 

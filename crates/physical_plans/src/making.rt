@@ -75,10 +75,7 @@ fn made(
         IsMade plan.now.meaning.windows.items plan.now.widths.items widths.now places.now start
         node.now operator) }
 {
-    let kind = shared(
-        alloc,
-        kind_made(alloc, &plan.meaning.windows, widths, node)?,
-    )?;
+    let kind = shared(alloc, kind_made(alloc, widths, node)?)?;
     let state = state_made(alloc, &plan.meaning.windows, &plan.widths, widths, node)?;
     Ok(Operator::new(alloc, kind, state, inbox_made(alloc, places, start, node)))
 }

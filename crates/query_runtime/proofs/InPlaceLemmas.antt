@@ -36,69 +36,41 @@ pub record GivesOut (k : Kind) (side : Side) (i : Item) (n : Excerpt) : Type 0 w
   pub is : outs_at k side i n ≡ Answered rows
 
 puts_of : (k : Kind) (side : Side) (i : Item) (n : Excerpt) → is_root k ≡ false → PutsOut k side i n
-puts_of kind.RangeWindow side i near.Nothing h = record { outs = _; is = refl }
-puts_of kind.RangeWindow side i (near.Leaving rows) h = record { outs = _; is = refl }
-puts_of kind.RangeWindow side i (near.Sliding rows) h = record { outs = _; is = refl }
-puts_of kind.RangeWindow side i (near.Fallen rows) h = record { outs = _; is = refl }
-puts_of kind.RangeWindow side i (near.Met rows) h = record { outs = _; is = refl }
-puts_of kind.RangeWindow side i (near.Groups rows) h = record { outs = _; is = refl }
-puts_of kind.RangeWindow side i (near.Lists lists) h = record { outs = _; is = refl }
-puts_of kind.SlideWindow side i near.Nothing h = record { outs = _; is = refl }
-puts_of kind.SlideWindow side i (near.Leaving rows) h = record { outs = _; is = refl }
-puts_of kind.SlideWindow side i (near.Sliding rows) h = record { outs = _; is = refl }
-puts_of kind.SlideWindow side i (near.Fallen rows) h = record { outs = _; is = refl }
-puts_of kind.SlideWindow side i (near.Met rows) h = record { outs = _; is = refl }
-puts_of kind.SlideWindow side i (near.Groups rows) h = record { outs = _; is = refl }
-puts_of kind.SlideWindow side i (near.Lists lists) h = record { outs = _; is = refl }
-puts_of kind.LatestWindow side i near.Nothing h = record { outs = _; is = refl }
-puts_of kind.LatestWindow side i (near.Leaving rows) h = record { outs = _; is = refl }
-puts_of kind.LatestWindow side i (near.Sliding rows) h = record { outs = _; is = refl }
-puts_of kind.LatestWindow side i (near.Fallen rows) h = record { outs = _; is = refl }
-puts_of kind.LatestWindow side i (near.Met rows) h = record { outs = _; is = refl }
-puts_of kind.LatestWindow side i (near.Groups rows) h = record { outs = _; is = refl }
-puts_of kind.LatestWindow side i (near.Lists lists) h = record { outs = _; is = refl }
+puts_of kind.Window side i near.Nothing h = record { outs = _; is = refl }
+puts_of kind.Window side i (near.Window rows) h = record { outs = _; is = refl }
+puts_of kind.Window side i (near.Met rows) h = record { outs = _; is = refl }
+puts_of kind.Window side i (near.Groups rows) h = record { outs = _; is = refl }
+puts_of kind.Window side i (near.Lists lists) h = record { outs = _; is = refl }
 puts_of (kind.Select steps) side i near.Nothing h = record { outs = _; is = refl }
-puts_of (kind.Select steps) side i (near.Leaving rows) h = record { outs = _; is = refl }
-puts_of (kind.Select steps) side i (near.Sliding rows) h = record { outs = _; is = refl }
-puts_of (kind.Select steps) side i (near.Fallen rows) h = record { outs = _; is = refl }
+puts_of (kind.Select steps) side i (near.Window rows) h = record { outs = _; is = refl }
 puts_of (kind.Select steps) side i (near.Met rows) h = record { outs = _; is = refl }
 puts_of (kind.Select steps) side i (near.Groups rows) h = record { outs = _; is = refl }
 puts_of (kind.Select steps) side i (near.Lists lists) h = record { outs = _; is = refl }
 puts_of (kind.Project columns) side i near.Nothing h = record { outs = _; is = refl }
-puts_of (kind.Project columns) side i (near.Leaving rows) h = record { outs = _; is = refl }
-puts_of (kind.Project columns) side i (near.Sliding rows) h = record { outs = _; is = refl }
-puts_of (kind.Project columns) side i (near.Fallen rows) h = record { outs = _; is = refl }
+puts_of (kind.Project columns) side i (near.Window rows) h = record { outs = _; is = refl }
 puts_of (kind.Project columns) side i (near.Met rows) h = record { outs = _; is = refl }
 puts_of (kind.Project columns) side i (near.Groups rows) h = record { outs = _; is = refl }
 puts_of (kind.Project columns) side i (near.Lists lists) h = record { outs = _; is = refl }
 puts_of kind.Join side i near.Nothing h = record { outs = _; is = refl }
-puts_of kind.Join side i (near.Leaving rows) h = record { outs = _; is = refl }
-puts_of kind.Join side i (near.Sliding rows) h = record { outs = _; is = refl }
-puts_of kind.Join side i (near.Fallen rows) h = record { outs = _; is = refl }
+puts_of kind.Join side i (near.Window rows) h = record { outs = _; is = refl }
 puts_of kind.Join side i (near.Met rows) h = record { outs = _; is = refl }
 puts_of kind.Join side i (near.Groups rows) h = record { outs = _; is = refl }
 puts_of kind.Join side i (near.Lists lists) h = record { outs = _; is = refl }
 puts_of (kind.Group g) side i near.Nothing h = record { outs = _; is = refl }
-puts_of (kind.Group g) side i (near.Leaving rows) h = record { outs = _; is = refl }
-puts_of (kind.Group g) side i (near.Sliding rows) h = record { outs = _; is = refl }
-puts_of (kind.Group g) side i (near.Fallen rows) h = record { outs = _; is = refl }
+puts_of (kind.Group g) side i (near.Window rows) h = record { outs = _; is = refl }
 puts_of (kind.Group g) side i (near.Met rows) h = record { outs = _; is = refl }
 puts_of (kind.Group g) side i (near.Groups rows) h = record { outs = _; is = refl }
 puts_of (kind.Group g) side i (near.Lists lists) h = record { outs = _; is = refl }
 puts_of kind.ToStream side i n h = absurd (cc)
 
 gives_of : (k : Kind) (side : Side) (i : Item) (n : Excerpt) → is_root k ≡ true → GivesOut k side i n
-gives_of kind.RangeWindow side i n h = absurd (cc)
-gives_of kind.SlideWindow side i n h = absurd (cc)
-gives_of kind.LatestWindow side i n h = absurd (cc)
+gives_of kind.Window side i n h = absurd (cc)
 gives_of (kind.Select steps) side i n h = absurd (cc)
 gives_of (kind.Project columns) side i n h = absurd (cc)
 gives_of kind.Join side i n h = absurd (cc)
 gives_of (kind.Group g) side i n h = absurd (cc)
 gives_of kind.ToStream side i near.Nothing h = record { rows = _; is = refl }
-gives_of kind.ToStream side i (near.Leaving rows) h = record { rows = _; is = refl }
-gives_of kind.ToStream side i (near.Sliding rows) h = record { rows = _; is = refl }
-gives_of kind.ToStream side i (near.Fallen rows) h = record { rows = _; is = refl }
+gives_of kind.ToStream side i (near.Window rows) h = record { rows = _; is = refl }
 gives_of kind.ToStream side i (near.Met rows) h = record { rows = _; is = refl }
 gives_of kind.ToStream side i (near.Groups rows) h = record { rows = _; is = refl }
 gives_of kind.ToStream side i (near.Lists lists) h = record { rows = _; is = refl }

@@ -45,6 +45,7 @@ pub(crate) fn leased(
     Ok((item, near))
 }
 
+/// Returns a number of rows, or that of a full batch if it is less.
 pub(crate) fn within_a_batch(rows: usize) -> usize
     ensures { result ≡ min rows 1024 }
 {

@@ -232,7 +232,8 @@ impl RunningQuery {
     ///
     /// # Errors
     /// `Refused::Before` when out of memory before anything was taken; then nothing has changed.
-    /// `Refused::Within` when out of memory later. Then it was a turn of fewer rows, without answers.
+    /// `Refused::Within` when out of memory later. Then it was a turn of fewer rows, without
+    /// answers.
     pub fn run(
         &mut self,
         alloc: Global,

@@ -11,7 +11,7 @@ use answer_rows::AnswerRows;
 use column::Side;
 use op_queue::Log;
 use operators::{Operator, Refused};
-use row_bags::DatedRows;
+use row_bags::{DatedReader, DatedRows};
 use std::alloc::{AllocError, Global};
 use std::marker::Model;
 use values::Row;
@@ -150,32 +150,28 @@ impl WaitingAnswers {
     }
 }
 
-/// Moves the answers into one flat list.
+/// Copies the answers into one flat list.
 ///
 /// # Errors
 /// `AllocError` when out of memory.
-fn flat_of(alloc: Global, mut answers: DatedRows) -> Result<AnswerRows, AllocError>
+fn flat_of(alloc: Global, answers: DatedReader) -> Result<AnswerRows, AllocError>
     requires { are_signed answers ≡ true }
     ensures { IfOk result (λ rows. rows ≡ handed answers) }
 {
-    let count = answers.len();
-    let mut row = Row::new();
-    let Some(at) = answers.pop_front_into(&mut row) else {
-        return Ok(AnswerRows::new(alloc));
-    };
-    let mut rows = AnswerRows::with_room(alloc, count, count.saturating_mul(row.len()))?;
-    rows.push(at as i64, &row)?;
-    push_all(&mut rows, &mut row, answers)?;
+    let (count, values) = answers.room();
+    let mut rows = AnswerRows::with_room(alloc, count, values)?;
+    push_all(&mut rows, answers)?;
     Ok(rows)
 }
 
-/// Appends the answers to the flat list. The row is only a place for them.
-fn push_all(rows: &mut AnswerRows, row: &mut Row, mut answers: DatedRows) -> Result<(), AllocError>
+/// Appends the answers to the flat list.
+fn push_all(rows: &mut AnswerRows, mut answers: DatedReader) -> Result<(), AllocError>
     requires { are_signed answers ≡ true }
     ensures { OnOk result (rows.new ≡ rows.old ++ handed answers) }
 {
-    while let Some(at) = answers.pop_front_into(row) {
-        rows.push(at as i64, row.as_slice())?;
+    while let Some((at, values)) = answers.first() {
+        rows.push(at as i64, values)?;
+        answers.pass();
     }
     Ok(())
 }

@@ -1,7 +1,7 @@
 -- Rows with their instants: more behind them, and their front.
-use Rattle.std.proofs.Common.{◌≡◌, ℕ, ℤ, zero, suc, Result, Ok, Err, OnOk, ◌+◌, ◌-◌, ◌<◌, ◌≤◌, Option, List, [], ◌∷◌, ◌++◌, length, map, take, drop, get_or, refl, ap, ap₂, sym, subst, ◌∙◌, arith, append_assoc, length-append, length-drop}
+use Rattle.std.proofs.Common.{◌≡◌, min, ℕ, ℤ, zero, suc, Result, Ok, Err, OnOk, ◌+◌, ◌-◌, ◌<◌, ◌≤◌, Option, List, [], ◌∷◌, ◌++◌, length, map, take, drop, get_or, refl, ap, ap₂, sym, subst, ◌∙◌, arith, append_assoc, length-append, length-drop, drop-cons}
 use Rattle.std.proofs.Math.Seq.{take-add, take-append-add}
-use Rattle.std.proofs.lemmas.List.{drop-append-le, take-append-le, take_all, take_at, drop_all, drop-take, length-take, length-take-le}
+use Rattle.std.proofs.lemmas.List.{drop-append-le, drop-drop, take-append-le, take_all, take_at, drop_all, drop-take, length-take, length-take-le}
 use Rattle.values.specs.declared.TheConstants.{MAX_COLUMNS}
 use Rattle.values.specs.Row.{Row}
 use Rattle.row_bags.specs.declared.dated_rows.DatedHead.{DatedHead}
@@ -61,6 +61,14 @@ count-least (suc n) (suc m) (h ∷ hs) le = omega (arith, count-least n m hs (om
 pub within-rows : (hs : List DatedHead) (vs : Values) (rows : List (ℕ × Row)) → dated_by hs vs ≡ rows → length rows ≡ length hs
 within-rows hs vs rows e = sym (ap (λ (es : List (ℕ × Row)). length es) e) ∙ length-dated_by hs vs
 
+pub take-clipped : {A : Type 0} (n m : ℕ) (xs : List A) → m ≡ min n (length xs) → take m xs ≡ take n xs
+take-clipped zero zero xs e = refl
+take-clipped zero (suc m) xs e = absurd (omega (arith, e))
+take-clipped (suc n) zero [] e = refl
+take-clipped (suc n) (suc m) [] e = absurd (omega (arith, e))
+take-clipped (suc n) zero (x ∷ xs) e = absurd (omega (arith, e))
+take-clipped (suc n) (suc m) (x ∷ xs) e = ap (λ (l : List _). x ∷ l) (take-clipped n m xs (omega (arith, e)))
+
 pub take-seam : {A : Type 0} (n : ℕ) (xs ys zs : List A) → xs ++ ys ≡ zs → length xs ≤ n → xs ++ take (n - length xs) ys ≡ take n zs
 take-seam {A = A} n xs ys zs e le =
     let split : length xs + (n - length xs) ≡ n = omega (arith, le) in
@@ -84,6 +92,39 @@ AreHeaded-first (suc n) (h ∷ hs) vs a =
     let m : ℕ = count_values (take n hs) in
     let within : h.width + m ≤ length vs = omega (arith, a.1, count-within n hs (drop h.width vs) a.2, length-drop h.width vs) in
     (a.0, omega (arith, length-take-le (h.width + m) vs within), subst (AreHeaded (take n hs)) (sym (drop-take h.width m vs)) (AreHeaded-first n hs (drop h.width vs) a.2))
+
+-- ROWS THAT ARE READ
+
+head_left : (hs : List DatedHead) (place : ℕ) (h : DatedHead) → place < length hs → h ≡ get_or hs place h → drop place hs ≡ h ∷ drop (suc place) hs
+head_left hs place h lt is = drop-cons hs place h lt ∙ ap (λ (g : DatedHead). g ∷ drop (suc place) hs) (sym is)
+
+-- the first row that is left
+pub row_left : (hs : List DatedHead) (vs : Values) (place : ℕ) (h : DatedHead) → place < length hs → h ≡ get_or hs place h → dated_by (drop place hs) vs ≡ (h.instant, take h.width vs) ∷ drop 1 (dated_by (drop place hs) vs)
+row_left hs vs place h lt is =
+    let P : List DatedHead → Type 0 = λ l. dated_by l vs ≡ (h.instant, take h.width vs) ∷ drop 1 (dated_by l vs) in
+    subst P (sym (head_left hs place h lt is)) refl
+
+pub width_left : (hs : List DatedHead) (vs : Values) (place start : ℕ) (h : DatedHead) → place < length hs → h ≡ get_or hs place h → AreHeaded (drop place hs) (drop start vs) → start ≤ length vs → (h.width ≤ MAX_COLUMNS) × (start + h.width ≤ length vs)
+width_left hs vs place start h lt is a few =
+    let b = subst (λ (l : List DatedHead). AreHeaded l (drop start vs)) (head_left hs place h lt is) a in
+    (b.0, omega (arith, b.1, length-drop start vs, few))
+
+-- and those that are left when it is passed
+pub headed_left : (hs : List DatedHead) (vs : Values) (place start : ℕ) (h : DatedHead) → place < length hs → h ≡ get_or hs place h → AreHeaded (drop place hs) (drop start vs) → AreHeaded (drop (place + 1) hs) (drop (start + h.width) vs)
+headed_left hs vs place start h lt is a =
+    let b = subst (λ (l : List DatedHead). AreHeaded l (drop start vs)) (head_left hs place h lt is) a in
+    let one : suc place ≡ place + 1 = omega arith in
+    subst (λ (k : ℕ). AreHeaded (drop k hs) (drop (start + h.width) vs)) one (subst (AreHeaded (drop (suc place) hs)) (drop-drop h.width start vs) b.2)
+
+pub rows_left : (hs : List DatedHead) (vs : Values) (place start : ℕ) (h : DatedHead) → place < length hs → h ≡ get_or hs place h → dated_by (drop (place + 1) hs) (drop (start + h.width) vs) ≡ drop 1 (dated_by (drop place hs) (drop start vs))
+rows_left hs vs place start h lt is =
+    let one : place + 1 ≡ suc place = omega arith in
+    ap (λ (k : ℕ). dated_by (drop k hs) (drop (start + h.width) vs)) one
+    ∙ ap (dated_by (drop (suc place) hs)) (sym (drop-drop h.width start vs))
+    ∙ ap (λ (l : List DatedHead). drop 1 (dated_by l (drop start vs))) (sym (head_left hs place h lt is))
+
+pub none_left : (hs : List DatedHead) (vs : Values) (place : ℕ) → length hs ≤ place → dated_by (drop place hs) vs ≡ []
+none_left hs vs place le = ap (λ (l : List DatedHead). dated_by l vs) (drop_all place hs le)
 
 -- WHAT STANDS IN FRONT STAYS
 

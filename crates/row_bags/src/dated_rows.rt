@@ -117,10 +117,15 @@ impl DatedRows {
         Some(head.instant)
     }
 
-    /// Drops the first `count` rows, or all if there are fewer. It costs these.
+    /// Drops the first `count` rows, or all if there are fewer. It costs these, and hardly anything
+    /// if all go.
     pub fn drop_first(&mut self, count: usize)
         ensures { self.new ≡ drop count self.old }
     {
+        if self.len() <= count {
+            self.clear();
+            return;
+        }
         let mut row = Row::new();
         for _ in 0..count {
             match self.pop_front_into(&mut row) {
@@ -128,6 +133,14 @@ impl DatedRows {
                 None => return,
             }
         }
+    }
+
+    /// Drops all rows, and keeps their memory for those to come.
+    fn clear(&mut self)
+        ensures { self.new ≡ [] }
+    {
+        self.heads.clear();
+        self.values.clear();
     }
 
     /// Keeps the first `count` rows, and drops those after them.
@@ -158,17 +171,80 @@ impl DatedRows {
     ///
     /// # Errors
     /// `AllocError` when out of memory.
-    pub fn copy_first(&self, alloc: Global, count: usize) -> Result<DatedRows, AllocError>
+    pub fn copy_first(&self, alloc: Global, count: usize) -> Result<DatedReader, AllocError>
         ensures { IfOk result (λ copy. copy ≡ take count self.now) }
     {
-        if count >= self.len() {
-            return self.copy(alloc);
-        }
         let _all = self.values.len(); // for the proof
-        let values = values_of_first(&self.heads, count);
-        let heads = copy_of_first(alloc, &self.heads, count)?;
+        let rows = count.min(self.len());
+        let values = values_of_first(&self.heads, rows);
+        let heads = copy_of_first(alloc, &self.heads, rows)?;
         let values = copy_of_first(alloc, &self.values, values)?;
-        Ok(DatedRows { heads, values })
+        Ok(DatedReader {
+            heads,
+            values,
+            place: 0,
+            start: 0,
+        })
+    }
+}
+
+/// Reads dated rows one after the other, out of a copy.
+#[derive(Drop)]
+pub struct DatedReader {
+    /// Holds the instant and the width of each row.
+    heads: Vec<DatedHead>,
+    /// Holds the rows' values in the same order, one row after the other.
+    values: Vec<Value>,
+    /// Counts the rows that were passed.
+    place: usize,
+    /// Counts the values of these.
+    start: usize,
+}
+
+impl Model for DatedReader {
+    ghost use Rattle.std.specs.Prelude.{◌≤◌, ℕ, List, drop, length};
+    ghost use Rattle.values.specs.Row.{Row as OneRow};
+    ghost use Rattle.row_bags.specs.Dated.{AreHeaded, dated_by};
+
+    ghost Value = { List (ℕ × OneRow) };
+
+    ghost view = { λ r. dated_by (drop r.place r.heads.items) (drop r.start r.values.items) };
+
+    ghost invariant = { λ r. AreHeaded (drop r.place r.heads.items) (drop r.start r.values.items)
+        × (r.start ≤ length r.values.items) };
+}
+
+impl DatedReader {
+    /// Returns the instant of the first row that is left, and its values.
+    pub fn first(&self) -> Option<(u64, &[Value])>
+        ensures some { IfSome result (λ e. self.now ≡ (e.0, e.1.now) ∷ drop 1 self.now) }
+        ensures few { IfSome result (λ e. length e.1.now ≤ MAX_COLUMNS) }
+        ensures none { IfNone result (self.now ≡ []) }
+    {
+        if self.place >= self.heads.len() {
+            return None;
+        }
+        let head = self.heads[self.place];
+        Some((
+            head.instant,
+            &self.values[self.start..self.start + head.width],
+        ))
+    }
+
+    /// Passes the first row that is left, if there is one.
+    pub fn pass(&mut self)
+        ensures { self.new ≡ drop 1 self.old }
+    {
+        if self.place >= self.heads.len() {
+            return;
+        }
+        self.start += self.heads[self.place].width;
+        self.place += 1;
+    }
+
+    /// Counts the rows of the copy, and their values.
+    pub fn room(&self) -> (usize, usize) {
+        (self.heads.len(), self.values.len())
     }
 }
 
@@ -237,7 +313,7 @@ fn copy_of_first<T: Copy>(
     alloc: Global,
     items: &VecDeque<T>,
     count: usize,
-) -> Result<VecDeque<T>, AllocError>
+) -> Result<Vec<T>, AllocError>
     requires { count ≤ length items.now.items }
     ensures { IfOk result (λ copy. copy.items ≡ take count items.now.items) }
 {
@@ -245,9 +321,9 @@ fn copy_of_first<T: Copy>(
     let mut copy = Vec::with_capacity(alloc, count)?;
     if count <= front.len() {
         copy.extend_from_slice(&front[..count])?;
-        return Ok(VecDeque::from_vec(copy));
+        return Ok(copy);
     }
     copy.extend_from_slice(front)?;
     copy.extend_from_slice(&back[..count - front.len()])?;
-    Ok(VecDeque::from_vec(copy))
+    Ok(copy)
 }

@@ -27,7 +27,7 @@ mod pile;
 mod row_bag;
 mod row_list;
 
-pub use dated_rows::DatedRows;
+pub use dated_rows::{DatedReader, DatedRows};
 pub use delta::Delta;
 pub use form::Form;
 pub use keys::{begins_with, copied, fitted};

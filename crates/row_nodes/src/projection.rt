@@ -68,7 +68,8 @@ pub fn run_project(
 }
 
 /// Takes what stands first in a queue, a tick or at most `rows` rows, and pushes what Project emits
-/// at it to the back of another queue. Columns are copied.
+/// at it to the back of another queue. Columns of a batch that leaves whole are moved, if they keep
+/// their order; else they are copied.
 ///
 /// # Errors
 /// `AllocError` when out of memory; then both queues are as they were.
@@ -103,6 +104,32 @@ pub fn project_front(
 /// Does so where a batch stands first that leaves whole. Returns whether one did; else nothing has
 /// changed.
 fn project_whole(
+    alloc: Global,
+    columns: &[usize],
+    rows: usize,
+    from: &mut Queue,
+    to: &mut Queue,
+) -> Result<bool, AllocError>
+    requires narrow { length columns.now ≤ MAX_COLUMNS }
+    requires some { 0 < rows }
+    requires within { (i : PlainItem) → IsFrontPart rows from.old.entries i
+        → AreColumns columns.now i }
+    requires forward { (i : PlainItem) → IsFrontPart rows from.old.entries i
+        → IsForward (to.old.entries ++ projected columns.now i) }
+    ensures moved { IfOk result (λ moved. OnTrue moved
+        (HasGoneOn rows (projected columns.now) from.old to.old from.new to.new)) }
+    ensures stays { IfOk result (λ moved.
+        OnFalse moved ((from.new ≡ from.old) × (to.new ≡ to.old))) }
+    ensures err { OnErr result ((from.new ≡ from.old) × (to.new ≡ to.old)) }
+{
+    if from.move_columns(rows, columns, to)? {
+        return Ok(true);
+    }
+    project_copied(alloc, columns, rows, from, to)
+}
+
+/// Does the same by a copy of the columns.
+fn project_copied(
     alloc: Global,
     columns: &[usize],
     rows: usize,

@@ -2,10 +2,11 @@
 use Rattle.std.proofs.Common.{◌≡◌, ◌≤◌, ◌<◌, ◌+◌, ◌-◌, ◌*◌, ℕ, ℤ, zero, suc, Bool, true, false, cond, nat_lt, Option, List, [], ◌∷◌, ◌++◌, take, drop, length, map, refl, sym, ap, ap₂, ◌∙◌, arith, length-append, length-drop, get_or, append_assoc, zero-mul}
 use Rattle.std.specs.List.{filter, range_with_len}
 use Rattle.std.proofs.Math.Nat.{add-mul}
-use Rattle.std.proofs.lemmas.List.{length-map, take-append-le, drop-append-le, drop-take, drop-drop, map-append}
+use Rattle.std.proofs.lemmas.List.{length-map, drop-drop, map-append}
 use Rattle.std.proofs.lemmas.List.FromFn.{length-range_with_len, length-map-range_with_len, map-range_with_len_more}
 use Rattle.values.specs.Row.{Row}
 use Rattle.values.specs.Window.{Element}
+pub use Rattle.op_queue.proofs.FlatLemmas.{length-rows_in, rows_in-append, rows_in-drop, rows_in-take}
 use Rattle.op_queue.proofs.RunLemmas.{range_with_len-add}
 use Rattle.stream_store.specs.Open.{elements_at}
 use Rattle.stream_store.specs.LateRows.{IsFlat, lent_rows, numbered_rows, rows_in}
@@ -19,39 +20,8 @@ rest_full width count values h = omega (arith, length-drop width values, h)
 pub first_full : (width : ℕ) (count : ℕ) (values : List (Option ℤ)) → length values ≡ suc count * width → width ≤ length values
 first_full width count values h = omega (arith, h)
 
-take_first : (n m : ℕ) (values : List (Option ℤ)) → take n (take (n + m) values) ≡ take n values
-take_first zero m values = refl
-take_first (suc n) m [] = let e : suc n + m ≡ suc (n + m) = omega arith in ap (λ k. take (suc n) (take k [])) e
-take_first (suc n) m (v ∷ values) =
-    let e : suc n + m ≡ suc (n + m) = omega arith in
-    ap (λ k. take (suc n) (take k (v ∷ values))) e ∙ ap (λ (vs : List (Option ℤ)). v ∷ vs) (take_first n m values)
-
-take-take_more : (width k : ℕ) (values : List (Option ℤ)) → take width (take (suc k * width) values) ≡ take width values
-take-take_more width k values = let e : suc k * width ≡ width + k * width = omega arith in ap (λ n. take width (take n values)) e ∙ take_first width (k * width) values
-
-drop-take_more : (width k : ℕ) (values : List (Option ℤ)) → drop width (take (suc k * width) values) ≡ take (k * width) (drop width values)
-drop-take_more width k values = let e : suc k * width ≡ width + k * width = omega arith in ap (λ n. drop width (take n values)) e ∙ drop-take width (k * width) values
-
 -- the rows have heads of any kind
 module _ {K : Type 0} where
-  pub length-rows_in : (width : ℕ) (heads : List K) (values : List (Option ℤ)) → length (rows_in width heads values) ≡ length heads
-  length-rows_in width [] values = refl
-  length-rows_in width (m ∷ heads) values = ap suc (length-rows_in width heads (drop width values))
-
-  pub rows_in-take : (width k : ℕ) (heads : List K) (values : List (Option ℤ)) → rows_in width (take k heads) (take (k * width) values) ≡ take k (rows_in width heads values)
-  rows_in-take width zero heads values = refl
-  rows_in-take width (suc k) [] values = refl
-  rows_in-take width (suc k) (m ∷ heads) values = rw (take-take_more width k values, drop-take_more width k values) (ap (λ (rs : List (K × Row)). (m, take width values) ∷ rs) (rows_in-take width k heads (drop width values)))
-
-  pub rows_in-drop : (width k : ℕ) (heads : List K) (values : List (Option ℤ)) → rows_in width (drop k heads) (drop (k * width) values) ≡ drop k (rows_in width heads values)
-  rows_in-drop width zero heads values = ap (λ n. rows_in width heads (drop n values)) (zero-mul width)
-  rows_in-drop width (suc k) [] values = refl
-  rows_in-drop width (suc k) (m ∷ heads) values =
-      let e : suc k * width ≡ width + k * width = omega arith in
-      ap (λ n. rows_in width (drop k heads) (drop n values)) e
-      ∙ ap (λ (vs : List (Option ℤ)). rows_in width (drop k heads) vs) (sym (drop-drop (k * width) width values))
-      ∙ rows_in-drop width k heads (drop width values)
-
   -- the row at a place
   pub rows_in-at : (width i : ℕ) (heads : List K) (values : List (Option ℤ)) (h : K) (d : K × Row) → i < length heads → get_or (rows_in width heads values) i d ≡ (get_or heads i h, take width (drop (i * width) values))
   rows_in-at width i [] values h d lt = absurd (omega (arith, lt))
@@ -75,15 +45,6 @@ count-rows_in n width (m ∷ numbers) values = here (nat_lt m n) (count-rows_in 
 
 -- ---- more rows
 module _ {K : Type 0} where
-  pub rows_in-append : (width : ℕ) (heads more : List K) (values longer : List (Option ℤ)) → length values ≡ length heads * width
-      → rows_in width (heads ++ more) (values ++ longer) ≡ rows_in width heads values ++ rows_in width more longer
-  rows_in-append width [] more [] longer h = refl
-  rows_in-append width [] more (v ∷ values) longer h = absurd (omega (arith, h))
-  rows_in-append width (m ∷ heads) more values longer h =
-      let within = first_full width (length heads) values h in
-      let rest = rest_full width (length heads) values h in
-      rw (take-append-le, drop-append-le) (ap (λ (rs : List (K × Row)). (m, take width values) ∷ rs) (rows_in-append width heads more (drop width values) longer rest))
-
   pub append_full : (width count : ℕ) (heads more : List K) (values longer : List (Option ℤ)) → length values ≡ length heads * width → length longer ≡ count * width → length more ≡ length heads + count
       → length (values ++ longer) ≡ length more * width
   append_full width count heads more values longer full also long =

@@ -39,7 +39,7 @@ by_arrival : by_key (λ e. e.arrival) 0 3 (element 1 1 5 ∷ element 2 1 6 ∷ e
 by_arrival = refl
 
 -- rows of two columns, kept flat
-flat_rows : rows_in {K = ℕ} 2 (0 ∷ 4 ∷ [])
+flat_rows : rows_in {H = ℕ} 2 (0 ∷ 4 ∷ [])
     (Some (pos 7) ∷ Some (pos 8) ∷ Some (pos 5) ∷ Some (pos 6) ∷ [])
     ≡ (0, Some (pos 7) ∷ Some (pos 8) ∷ []) ∷ (4, Some (pos 5) ∷ Some (pos 6) ∷ []) ∷ []
 flat_rows = refl

@@ -1,21 +1,16 @@
 -- How open rows are kept: their heads, and their values one row after another.
 use Rattle.std.specs.Prelude.{◌≡◌, ℕ, suc, ℤ, ◌*◌, ◌≤◌, ◌++◌, Option, Bool, nat_abs, nat_lt, List}
-use Rattle.std.specs.Prelude.{[], ◌∷◌, length, map, take, drop}
+use Rattle.std.specs.Prelude.{[], ◌∷◌, length, map, take}
 use Rattle.std.specs.List.{filter}
 use Rattle.values.specs.declared.TheConstants.{MAX_COLUMNS}
 use Rattle.values.specs.Row.{Row}
+pub use Rattle.op_queue.specs.Flat.{rows_in}
 
 -- the open rows of an instant: how many columns they
 -- have, and each with its number in the order of arrival
 pub record RowsAt : Type 0 where
   pub width : ℕ
   pub rows : List (ℕ × Row)
-
--- each head, be it a number or more, with the values of its row
-abbrev pub rows_in : {K : Type 0} → ℕ → List K → List (Option ℤ) → List (K × Row)
-rows_in width [] values = []
-rows_in width (head ∷ heads) values =
-    (head, take width values) ∷ rows_in width heads (drop width values)
 
 -- rows that are lent: their instants, none below 0, and their values, one row's behind another's
 abbrev pub lent_rows : ℕ → List ℤ → List (Option ℤ) → List (ℕ × Row)

@@ -215,6 +215,8 @@ fn after_the_end_no_turn_is_waited_for(rt: HostRuntime) -> Result<(), Fail> {
 enum Asked {
     /// Closes the instant.
     Heartbeat,
+    /// Closes the instant. A blank line comes with it.
+    HeartbeatAndBlank,
     /// Asks how far all is.
     Status,
     /// Asks for the answers that wait.
@@ -231,11 +233,12 @@ fn ask_by_a_connection<R: Threads + Wait + Clock + Sync>(
     asked: Asked,
 ) -> bool {
     thread::sleep(rt, Duration::from_millis(REST));
-    if asked != Asked::Heartbeat {
+    if asked == Asked::Status || asked == Asked::Peek {
         let _ = hub.heartbeat_named(rt, &mut seat, "S", 0);
     }
     let line = match asked {
         Asked::Heartbeat => "{\"op\":\"heartbeat\",\"stream\":\"S\",\"at\":0}\n",
+        Asked::HeartbeatAndBlank => "{\"op\":\"heartbeat\",\"stream\":\"S\",\"at\":0}\n \r\n\n",
         Asked::Status => "{\"op\":\"status\"}\n",
         Asked::Peek => "{\"op\":\"peek\",\"query\":\"q\",\"limit\":1}\n",
     };
@@ -282,6 +285,16 @@ fn a_peek_wakes_a_worker(rt: HostRuntime) -> Result<(), Fail> {
 fn a_connection_wakes_a_worker(rt: HostRuntime) -> Result<(), Fail> {
     let (hub, seat) = filled(&rt, rt.alloc(), 5)?;
     assert!(rt; is_woken_by_a_connection(&rt, rt.alloc(), &hub, seat, Asked::Heartbeat));
+    Ok(())
+}
+
+#[test]
+fn a_connection_wakes_a_worker_before_it_reads_on_from_a_blank_line(
+    rt: HostRuntime,
+) -> Result<(), Fail> {
+    let (hub, seat) = filled(&rt, rt.alloc(), 5)?;
+    let asked = Asked::HeartbeatAndBlank;
+    assert!(rt; is_woken_by_a_connection(&rt, rt.alloc(), &hub, seat, asked));
     Ok(())
 }
 

@@ -4,7 +4,7 @@ use column::{Batch, Side};
 use op_queue::Item;
 use row_bags::DatedRows;
 use std::alloc::{AllocError, Global};
-use turn::{Change, Outputs, Parts};
+use turn::{Outputs, Parts};
 use values::Value;
 
 /// Adds the values of a row.
@@ -56,14 +56,6 @@ fn add_answers(alloc: Global, text: &mut String, answers: &DatedRows) -> Result<
     Ok(())
 }
 
-/// Adds how many rows leave the front of a window.
-fn add_change(text: &mut String, change: &Change) -> Result<(), AllocError> {
-    match change {
-        Change::Leave(count) if *count > 0 => write!(text, "; {count} leave"),
-        _ => Ok(()),
-    }
-}
-
 /// Shows a turn: its number, the numbers of its query and its operator, what it takes, and then
 /// what it emits.
 pub(crate) fn shown(alloc: Global, parts: &Parts) -> Result<String, AllocError> {
@@ -78,6 +70,5 @@ pub(crate) fn shown(alloc: Global, parts: &Parts) -> Result<String, AllocError> 
         Outputs::Items(items) => add_items(&mut text, items)?,
         Outputs::Answers(answers) => add_answers(alloc, &mut text, answers)?,
     }
-    add_change(&mut text, &parts.change)?;
     Ok(text)
 }

@@ -17,6 +17,9 @@ use wire::{MemorySink, MemorySource, WriterSink};
 
 const DRAIN: &str = "{\"op\":\"drain\"}\n";
 
+/// Drains, with blank lines behind it.
+const DRAIN_AND_BLANK: &str = "{\"op\":\"drain\"}\n\r\n \n";
+
 const DONE: &str = "{\"ok\":true}\n";
 
 const FORGET: &str = "{\"op\":\"forget\"}\n";
@@ -561,6 +564,7 @@ fn each_call_is_settled_before_it_is_forgotten(rt: HostRuntime) -> Result<(), Fa
         (40, 100, DRAIN, (true, 41, 41, 0)),
         (40, 0, FORGET, (true, 41, 41, 0)),
         (3, 0, DRAIN, (false, 4, 4, 0)),
+        (3, 0, DRAIN_AND_BLANK, (false, 4, 4, 0)),
     ] {
         assert_eq!(rt;
             counts_over(&rt, rt.alloc(), count, forget, line)?,

@@ -13,7 +13,7 @@ use turn::{
     ColumnList, Done, Excerpt, Kind, Parts, SharedExcerpt, SharedItem, Turn, TurnNode, same_item,
 };
 use values::{Row, StreamOperator, Value};
-use windows::{RowTable, SlideExcerpt};
+use windows::Window;
 
 fn row(number: i64) -> Row
     ensures { length result.items ≡ 1 }
@@ -139,33 +139,31 @@ fn add_nodes(alloc: Global, text: &mut String) -> Result<(), AllocError> {
     add_line(
         text,
         name,
-        "root and range",
-        is_same_node(alloc, Kind::RangeWindow)?,
+        "root and window",
+        is_same_node(alloc, Kind::Window)?,
     )?;
     add_line(
         text,
         name,
-        "root and slide",
-        is_same_node(alloc, Kind::SlideWindow)?,
+        "root and join",
+        is_same_node(alloc, Kind::Join)?,
     )
 }
 
-/// Makes the excerpt of a window that moves at multiples, where one row passes without being shown.
-fn passing(alloc: Global, number: i64) -> Result<Excerpt, AllocError> {
-    let mut values = Vec::new(alloc);
-    values.push(Value::clamped(number as i128))?;
-    Ok(Excerpt::Sliding(SlideExcerpt {
-        leave: RowTable::new(alloc),
-        pass: RowTable::of(1, 1, values),
-        enter: RowTable::new(alloc),
-    }))
+/// Makes the excerpt of a window that the row 7 and another enter at the tick.
+fn showing(alloc: Global, number: i64) -> Result<Excerpt, AllocError> {
+    let batch = two(alloc, 7, number)?;
+    let mut window = Window::new(alloc, &values::Window::RangeSlide(1, 2), 1)?;
+    window.apply(&Item::Rows(1, batch))?;
+    let rows = window.near(alloc, &Item::Tick(2))?;
+    Ok(Excerpt::Window(rows))
 }
 
-/// Returns whether the excerpt in which the row 5 passes unshown is the same as that of another
-/// row.
-fn is_same_passing(alloc: Global, number: i64) -> Result<bool, AllocError> {
-    let five = passing(alloc, 5)?;
-    let other = passing(alloc, number)?;
+/// Returns whether the excerpt of a window that the rows 7 and 5 enter is the same as that of 7 and
+/// another row.
+fn is_same_showing(alloc: Global, number: i64) -> Result<bool, AllocError> {
+    let five = showing(alloc, 5)?;
+    let other = showing(alloc, number)?;
     Ok(five.is_same(&other))
 }
 
@@ -190,8 +188,8 @@ fn add_excerpts(alloc: Global, text: &mut String) -> Result<(), AllocError> {
     let name = "excerpts are told apart by value";
     add_line(text, name, "entered 5 and 5", is_same_excerpt(alloc, 5)?)?;
     add_line(text, name, "entered 5 and 6", is_same_excerpt(alloc, 6)?)?;
-    add_line(text, name, "passing 5 and 5", is_same_passing(alloc, 5)?)?;
-    add_line(text, name, "passing 5 and 6", is_same_passing(alloc, 6)?)
+    add_line(text, name, "showing 5 and 5", is_same_showing(alloc, 5)?)?;
+    add_line(text, name, "showing 5 and 6", is_same_showing(alloc, 6)?)
 }
 
 /// Adds all lines of turns.

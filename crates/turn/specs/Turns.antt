@@ -13,16 +13,13 @@ use Rattle.join.specs.Turns as join
 use Rattle.row_nodes.specs.Project.{AreColumns, projected}
 use Rattle.row_nodes.specs.Select.{FitItem, selected}
 use Rattle.to_stream.specs.Turns as root
-use Rattle.windows.specs.Latest as latest
-use Rattle.windows.specs.Range as range
-use Rattle.windows.specs.Slide as slide
-use Rattle.windows.specs.Widths.{HaveOneWidthAll}
+use Rattle.windows.specs.Windows as window
 use Rattle.turn.specs.Nodes.{PlainNode}
 use Rattle.turn.specs.declared.excerpts.Excerpt.{Excerpt}
 use Rattle.turn.specs.declared.excerpts.Excerpt.TheVariants as near
 use Rattle.turn.specs.declared.kinds.Kind.{Kind}
-use Rattle.turn.specs.declared.kinds.Kind.TheVariants.{RangeWindow, SlideWindow, LatestWindow}
-use Rattle.turn.specs.declared.kinds.Kind.TheVariants.{Select, Project, Join, Group, ToStream}
+use Rattle.turn.specs.declared.kinds.Kind.TheVariants.{Window, Select, Project, Join, Group}
+use Rattle.turn.specs.declared.kinds.Kind.TheVariants.{ToStream}
 use Rattle.turn.specs.declared.outcomes.Change.{Change}
 use Rattle.turn.specs.declared.outcomes.Change.TheVariants as change
 use Rattle.turn.specs.declared.outcomes.Outputs.{Outputs}
@@ -39,17 +36,9 @@ outs_in (Answers answers) = Answered answers
 
 -- THE EXCERPT FITS THE NODE AND THE ITEM
 
-abbrev pub FitsRange : Excerpt → Type 0
-FitsRange (near.Leaving rows) = HaveOneWidthAll rows
-FitsRange n = ⊥
-
-abbrev pub FitsSlide : Excerpt → Type 0
-FitsSlide (near.Sliding rows) = slide.HaveOneWidthIn rows
-FitsSlide n = ⊥
-
-abbrev pub FitsLatest : Item → Excerpt → Type 0
-FitsLatest i (near.Fallen rows) = latest.FallenFit i rows
-FitsLatest i n = ⊥
+abbrev pub FitsWindow : Item → Excerpt → Type 0
+FitsWindow i (near.Window rows) = window.Fits i rows
+FitsWindow i n = ⊥
 
 abbrev pub FitsSelect : List Step → Item → Excerpt → Type 0
 FitsSelect steps i near.Nothing = FitItem steps i
@@ -72,9 +61,7 @@ FitsRoot (near.Lists lists) = Unit {0}
 FitsRoot n = ⊥
 
 abbrev pub FitsKind : Kind → Side → Item → Excerpt → Type 0
-FitsKind RangeWindow side i n = FitsRange n
-FitsKind SlideWindow side i n = FitsSlide n
-FitsKind LatestWindow side i n = FitsLatest i n
+FitsKind Window side i n = FitsWindow i n
 FitsKind (Select steps) side i n = FitsSelect steps i n
 FitsKind (Project columns) side i n = FitsProject columns i n
 FitsKind Join side i n = FitsJoin i n
@@ -87,17 +74,9 @@ Fits node i n = FitsKind node.kind node.side i n
 
 -- THE OUTPUTS; an excerpt of another kind gives none
 
-abbrev pub range_outs : Item → Excerpt → Outs
-range_outs i (near.Leaving rows) = Put (range.out i rows)
-range_outs i n = Put []
-
-abbrev pub slide_outs : Item → Excerpt → Outs
-slide_outs i (near.Sliding rows) = Put (slide.out i rows)
-slide_outs i n = Put []
-
-abbrev pub latest_outs : Item → Excerpt → Outs
-latest_outs i (near.Fallen rows) = Put (latest.out i rows)
-latest_outs i n = Put []
+abbrev pub window_outs : Item → Excerpt → Outs
+window_outs i (near.Window rows) = Put (window.out i rows)
+window_outs i n = Put []
 
 abbrev pub select_outs : List Step → Item → Excerpt → Outs
 select_outs steps i near.Nothing = Put (selected steps i)
@@ -120,9 +99,7 @@ root_outs i (near.Lists lists) = Answered (root.out i lists)
 root_outs i n = Answered []
 
 abbrev pub outs_at : Kind → Side → Item → Excerpt → Outs
-outs_at RangeWindow side i n = range_outs i n
-outs_at SlideWindow side i n = slide_outs i n
-outs_at LatestWindow side i n = latest_outs i n
+outs_at Window side i n = window_outs i n
 outs_at (Select steps) side i n = select_outs steps i n
 outs_at (Project columns) side i n = project_outs columns i n
 outs_at Join side i n = join_outs side i n
@@ -132,20 +109,14 @@ outs_at ToStream side i n = root_outs i n
 abbrev pub outs_of : PlainNode → Item → Excerpt → Outs
 outs_of node i n = outs_at node.kind node.side i n
 
--- THE CHANGE: how many rows leave a window of instants, what groups show; else the item says all
-
-abbrev pub range_change : Item → Excerpt → Change
-range_change i (near.Leaving rows) = change.Leave (range.change i rows)
-range_change i n = change.Nothing
+-- THE CHANGE: what groups show; else the item says all
 
 abbrev pub group_change : GroupBy → Item → Excerpt → Change
 group_change g i (near.Groups groups) = change.Groups (group.change g i groups)
 group_change g i n = change.Nothing
 
 abbrev pub change_at : Kind → Item → Excerpt → Change
-change_at RangeWindow i n = range_change i n
-change_at SlideWindow i n = change.Nothing
-change_at LatestWindow i n = change.Nothing
+change_at Window i n = change.Nothing
 change_at (Select steps) i n = change.Nothing
 change_at (Project columns) i n = change.Nothing
 change_at Join i n = change.Nothing

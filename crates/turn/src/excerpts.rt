@@ -2,7 +2,7 @@
 ghost use Rattle.std.specs.Prelude.{◌≡◌, ◌↔◌, IsTrue};
 
 use std::marker::Model;
-use windows::{FallenRows, RowTable, SlideExcerpt};
+use windows::WindowExcerpt;
 
 /// Holds for each row the rows of the other side that it meets; for a tick, whether the other side
 /// has ticked.
@@ -25,13 +25,8 @@ impl Model for MetRows {
 pub enum Excerpt {
     /// Is the excerpt of operators without a state.
     Nothing,
-    /// Holds the rows that leave a window of the last instants; none if the item is rows.
-    Leaving(RowTable),
-    /// Holds the rows that leave, pass and enter a window that moves only at multiples. It has none
-    /// unless the item is a tick at which the window moves.
-    Sliding(SlideExcerpt),
-    /// Holds the rows that fall out of the last rows of each partition; none if the item is a tick.
-    Fallen(FallenRows),
+    /// Holds the rows that leave or enter a window.
+    Window(WindowExcerpt),
     /// Holds what the item meets on the other side of a join.
     Met(MetRows),
     /// Holds the touched groups; none if the item is rows.
@@ -48,9 +43,7 @@ impl Excerpt {
     {
         match (self, other) {
             (Excerpt::Nothing, Excerpt::Nothing) => true,
-            (Excerpt::Leaving(rows), Excerpt::Leaving(others)) => rows.is_same(others),
-            (Excerpt::Sliding(rows), Excerpt::Sliding(others)) => rows.is_same(others),
-            (Excerpt::Fallen(rows), Excerpt::Fallen(others)) => rows.is_same(others),
+            (Excerpt::Window(rows), Excerpt::Window(others)) => rows.is_same(others),
             (Excerpt::Met(met), Excerpt::Met(other)) => met.near.is_same(&other.near),
             (Excerpt::Groups(groups), Excerpt::Groups(others)) => groups.is_same(others),
             (Excerpt::Lists(lists), Excerpt::Lists(others)) => lists.is_same(others),

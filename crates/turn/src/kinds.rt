@@ -77,12 +77,8 @@ impl ColumnList {
 /// Says what an operator does, with all that its turns need of the plan.
 #[derive(Drop)]
 pub enum Kind {
-    /// Is a window of the last instants, or of all.
-    RangeWindow,
-    /// Is a window of the last instants that moves only at the multiples of a number.
-    SlideWindow,
-    /// Is a window of the last rows of each partition.
-    LatestWindow,
+    /// Shows some of the rows of a stream.
+    Window,
     /// Passes on the rows for which a condition is true.
     Select(StepList),
     /// Passes on some columns of each row.
@@ -101,9 +97,7 @@ impl Kind {
         ensures { IsTrue result ↔ (self.now ≡ other.now) }
     {
         match (self, other) {
-            (Kind::RangeWindow, Kind::RangeWindow) => true,
-            (Kind::SlideWindow, Kind::SlideWindow) => true,
-            (Kind::LatestWindow, Kind::LatestWindow) => true,
+            (Kind::Window, Kind::Window) => true,
             (Kind::Select(steps), Kind::Select(others)) => steps.is_same(others),
             (Kind::Project(columns), Kind::Project(others)) => columns.is_same(others),
             (Kind::Join, Kind::Join) => true,

@@ -17,8 +17,6 @@ pub enum Outputs {
 pub enum Change {
     /// Changes nothing more.
     Nothing,
-    /// Counts the rows that leave the front of a window of the last instants.
-    Leave(usize),
     /// Holds what the touched groups show.
     Groups(group::GroupChange),
 }

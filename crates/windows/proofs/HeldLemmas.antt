@@ -7,8 +7,8 @@ use Rattle.std.proofs.lemmas.Bool.Decides.{nat_tests}
 use Rattle.std.proofs.lemmas.List.{drop-map, take-map}
 use Rattle.std.proofs.lemmas.Slice.Zip.{seconds-zip, length-zip}
 use Rattle.values.specs.Row.{Row}
-use Rattle.windows.specs.Range.{held_at}
-use Rattle.windows.proofs.RangeLemmas.{is_below, filter-step, below-none, sorted-head, sorted-tail}
+use Rattle.windows.specs.Instants.{held_at}
+use Rattle.windows.proofs.OrderLemmas.{is_below, filter-step, below-none, sorted-head, sorted-tail}
 
 pub zip-append : (ts us : List ℕ) (rows more : List Row) → length ts ≡ length rows → zip (ts ++ us) (rows ++ more) ≡ zip ts rows ++ zip us more
 zip-append [] us [] more e = refl

@@ -7,17 +7,15 @@ use Rattle.std.proofs.lemmas.List.{get_or_append_left, length-append, length-dro
 use Rattle.values.specs.Row.{Row}
 use Rattle.column.specs.Rows.{flat_rows}
 use Rattle.op_queue.specs.Entries.{Entry, IsForward, RowAt}
-use Rattle.op_queue.specs.Items.{entries_of, item_instant}
+use Rattle.op_queue.specs.Items.{entries_of}
 use Rattle.op_queue.specs.declared.item.Item.{Item}
 use Rattle.op_queue.specs.Queues.{HasGained, Waiting, first_begins}
 use Rattle.op_queue.specs.declared.item.Item.TheVariants.{Rows}
 use Rattle.op_queue.proofs.GainLemmas.{gained-item, gained-more, gained-same}
 use Rattle.windows.specs.Held.{cut_rows}
 use Rattle.std.specs.List.{filter, flat_map}
-use Rattle.op_queue.specs.declared.item.Item.TheVariants.{Tick}
-use Rattle.windows.specs.Range.{RangeState, is_past, leaving, near, out, with_sign}
+use Rattle.windows.specs.Instants.{with_sign}
 use Rattle.windows.proofs.FlatLemmas.{cut_rows-drop, length-cut_rows}
-use Rattle.windows.proofs.RangeLemmas.{near-none}
 
 -- ---- rows cut from a part of the values
 pub cut_rows-take : (w k m : ℕ) (values : List (Option ℤ)) → k ≤ m → take k (cut_rows w m values) ≡ cut_rows w k values
@@ -74,9 +72,6 @@ rows_signed w n «from» count enters values part rows le is cut =
 abbrev pub rows_at : ℕ → Bool → List Row → List (Entry Row)
 rows_at t enters rows = map (RowAt t) (map (with_sign enters) rows)
 
-abbrev pub leaving_at : ℕ → List Row → List (Entry Row)
-leaving_at t rows = map (RowAt t) (map leaving rows)
-
 pub rows_at-more : (t : ℕ) (enters : Bool) («from» more : ℕ) (rows : List Row) → rows_at t enters (take («from» + more) rows) ≡ rows_at t enters (take «from» rows) ++ rows_at t enters (take more (drop «from» rows))
 rows_at-more t enters «from» more rows =
     let at : Bool × Row → Entry Row = RowAt t in
@@ -118,29 +113,11 @@ gained_more t enters «from» more rows batch a b c is h entries begins =
 pub signed_part : (enters : Bool) (j k more : ℕ) (rows : List Row) (batch : List (Bool × Row)) → batch ≡ map (with_sign enters) (take more (drop (j + k) rows)) → batch ≡ map (with_sign enters) (take more (drop k (drop j rows)))
 signed_part enters j k more rows batch is = is ∙ ap (λ rs. map (with_sign enters) (take more rs)) (sym (drop-drop k j rows))
 
--- ---- the rows that leave at a tick
-pub near_taken : (s : RangeState) (span : Option ℕ) (w t n k first : ℕ) (held : List (ℕ × Row)) → record { span = span; width = w; held = held } ≡ s → span ≡ Some n → first ≡ t - n
-    → take k (map (λ h. h.1) held) ≡ map (λ h. h.1) (filter (λ h. nat_lt h.0 first) held) → take k (map (λ h. h.1) held) ≡ near s (Tick t)
-near_taken s span w t n k first held seen some is older =
-    older
-    ∙ ap (λ m. map (λ (h : ℕ × Row). h.1) (filter (λ h. nat_lt h.0 m) held)) is
-    ∙ ap (λ p. map (λ (h : ℕ × Row). h.1) (filter (is_past p t) held)) (sym some)
-    ∙ ap (λ s. near s (Tick t)) seen
-
 -- they are as many as were counted
 pub near_count : (k : ℕ) (held : List (ℕ × Row)) (rows : List Row) → k ≤ length held → take k (map (λ h. h.1) held) ≡ rows → k ≡ length rows
 near_count k held rows le is =
     let f : ℕ × Row → Row = λ h. h.1 in
     omega (arith, ap (λ (rs : List Row). length rs) is, length-take k (map f held), length-map held f)
-
--- where there is no span, none leaves
-pub near_none : (s : RangeState) (t : ℕ) → s.span ≡ None → [] ≡ near s (Tick t)
-near_none s t none = sym (near-none s (Tick t) t refl none)
-
--- what a turn puts out: the rows that leave, and then the item
-pub out_is : (s : RangeState) (i : Item) → out i (near s i) ≡ leaving_at (item_instant i) (near s i) ++ entries_of i
-out_is s (Rows t b) = refl
-out_is s (Tick t) = refl
 
 -- ---- items one behind the other
 pub forward_first : (es : List (Entry Row)) (i : Item) (items rest : List Item) (whole : List (Entry Row)) → es ++ flat_map entries_of items ≡ whole → items ≡ i ∷ rest → IsForward whole → IsForward (es ++ entries_of i)

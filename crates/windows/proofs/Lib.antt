@@ -1,6 +1,6 @@
 pub mod FlatLemmas
 pub mod RunLemmas
-pub mod RangeLemmas
+pub mod OrderLemmas
 pub mod HeldLemmas
 pub mod LeavingLemmas
 pub mod GrownLemmas
@@ -14,7 +14,11 @@ pub mod WindowLemmas
 pub mod MoveLemmas
 pub mod ShownLemmas
 pub mod LatestLaw
-pub mod RangeLaw
-pub mod SlideLaw
-pub mod SlideLemmas
+pub mod ReachLemmas
+pub mod InstantsLemmas
 pub mod StillLemmas
+pub mod InstantsLaw
+pub mod PassingLaw
+pub mod WindowLaw
+pub mod NextLemmas
+pub mod OutLemmas

@@ -4,9 +4,8 @@ use Rattle.std.specs.List.{filter}
 use Rattle.std.proofs.lemmas.Bool.{cases_lt}
 use Rattle.std.proofs.lemmas.Bool.Decides.{nat_tests}
 use Rattle.values.specs.Row.{Row}
-use Rattle.windows.specs.Range.{is_past}
-use Rattle.windows.specs.Slide as slide
-use Rattle.windows.specs.Slide.{SlideState, Stays, moves}
+use Rattle.windows.specs.Instants.{InstantState, Stays, is_past}
+use Rattle.windows.specs.Reach.{moves}
 
 not_below : (i k r : ℕ) → nat_lt i r ≡ false → k ≤ r → nat_lt i k ≡ false
 not_below i k r is le = grind (arith, nat_tests)
@@ -27,16 +26,12 @@ none_at_zero (h ∷ held) k le =
     let no : nat_lt h.0 k ≡ false = grind (arith, nat_tests) in
     rw no (none_at_zero held k le)
 
-pub none_past : (t : ℕ) (held : List (ℕ × Row)) → filter (is_past None t) held ≡ []
-none_past t [] = refl
-none_past t (h ∷ held) = none_past t held
-
--- A SLIDE stays as it is while it does not move
-pub stays_unmoved : (s : SlideState) (start b next : ℕ) → ((t : ℕ) → start ≤ t → t < next → moves s.step t ≡ false) → b ≤ next → Stays start b s
+-- A WINDOW stays as it is while it does not move
+pub stays_unmoved : (s : InstantState) (start b next : ℕ) → ((t : ℕ) → start ≤ t → t < next → moves s.reach t ≡ false) → b ≤ next → Stays start b s
 stays_unmoved s start b next still le = inl (λ t x y. still t x (omega (arith, y, le)))
 
 -- and while none of its rows is past, if it shows them all
-pub stays_shown : (s : SlideState) (start b next keeps : ℕ) → ((t : ℕ) → start ≤ t → t < next → moves s.step t ≡ false) → ((t : ℕ) → t < keeps → filter (slide.is_past s.span t) s.held ≡ []) → length s.held ≤ s.shown → s.shown ≤ length s.held
+pub stays_shown : (s : InstantState) (start b next keeps : ℕ) → ((t : ℕ) → start ≤ t → t < next → moves s.reach t ≡ false) → ((t : ℕ) → t < keeps → filter (is_past s.reach t) s.held ≡ []) → length s.held ≤ s.shown → s.shown ≤ length s.held
     → start < b → b ≤ max next keeps → Stays start b s
 stays_shown s start b next keeps still none all few lt le =
     ⊎_elim (λ m. inr (omega (arith, all, few), none (b - 1) (omega (arith, lt, le, m)))) (λ m. stays_unmoved s start b next still m) (cases_lt next b)

@@ -11,8 +11,7 @@ use Rattle.windows.specs.Held.{IsFlat, cut_rows}
 use Rattle.windows.proofs.FlatLemmas.{IsFlat-none, IsFlat-push, cut_rows-drop, cut_rows-push, get_or-cut_rows, length-cut_rows, rows_fit, rows_up_to, width_is}
 use Rattle.op_queue.specs.Entries.{Entry, RowAt, TickAt}
 use Rattle.op_queue.specs.declared.item.Item.TheVariants.{Tick}
-use Rattle.windows.specs.Slide.{out}
-use Rattle.windows.specs.Range.{with_sign}
+use Rattle.windows.specs.Instants.{out, with_sign}
 use Rattle.windows.proofs.LeavingLemmas.{cut_rows-first, cut_rows-take, rows_at, rows_at-more}
 
 -- the rows between two places of others
@@ -105,9 +104,9 @@ more_rows t enters «from» more rows batch first old new sofar is n =
     ∙ append_assoc first (rows_at t enters (take «from» rows)) (rows_at t enters (take more (drop «from» rows)))
     ∙ ap (λ es. first ++ es) (sym (rows_at-more t enters «from» more rows))
 
--- what a sliding window puts out at a tick
-pub slide_out : (t : ℕ) (leave pass enter : List Row) (first left entered all : List (Entry Row)) → first ≡ [] → left ≡ first ++ rows_at t false leave → entered ≡ left ++ rows_at t true enter → all ≡ entered ++ TickAt t ∷ []
-    → all ≡ out (Tick t) (record { leave = leave; pass = pass; enter = enter })
-slide_out t leave pass enter first left entered all none l e a =
+-- the rows that leave, those that enter, and the tick
+pub tick_out_is : (t : ℕ) (once : Bool) (leave pass enter : List Row) (first left entered all : List (Entry Row)) → first ≡ [] → left ≡ first ++ rows_at t false leave → entered ≡ left ++ rows_at t true enter → all ≡ entered ++ TickAt t ∷ []
+    → all ≡ out (Tick t) (record { at_once = once; leave = leave; pass = pass; enter = enter })
+tick_out_is t once leave pass enter first left entered all none l e a =
     let both : left ++ rows_at t true enter ≡ rows_at t false leave ++ rows_at t true enter = ap (λ es. es ++ rows_at t true enter) (l ∙ ap (λ es. es ++ rows_at t false leave) none) in
     a ∙ ap (λ es. es ++ TickAt t ∷ []) (e ∙ both ∙ sym (map-append (RowAt t) (map (with_sign false) leave) (map (with_sign true) enter)))

@@ -6,9 +6,9 @@ use Rattle.op_queue.specs.Entries.{RowAt, TickAt}
 use Rattle.op_queue.specs.declared.item.Item.TheVariants.{Rows, Tick}
 use Rattle.windows.specs.declared.runs.Run.{Run}
 use Rattle.windows.specs.Held.{cut_rows, held_in}
+use Rattle.windows.specs.Instants.{InstantExcerpt, InstantState, near, next, out}
 use Rattle.windows.specs.Latest as latest
-use Rattle.windows.specs.Range as range
-use Rattle.windows.specs.Slide as slide
+use Rattle.windows.specs.declared.reach.Reach.TheVariants.{All, Last, Steps}
 
 abbrev one : ℕ → Row
 one n = Some (pos n) ∷ []
@@ -23,46 +23,63 @@ abbrev leaves : Row → Bool × Row
 leaves r = (false, r)
 
 -- Range 2 with rows of the instants 1, 2 and 4: at the tick of 4 the row of 1 leaves
-abbrev window : range.RangeState
-window = record { span = Some 2; width = 1; held = (1, one 7) ∷ (2, one 8) ∷ (4, one 9) ∷ [] }
+abbrev window : InstantState
+window = record {
+  reach = Last 2;
+  width = 1;
+  held = (1, one 7) ∷ (2, one 8) ∷ (4, one 9) ∷ [];
+  shown = 3;
+}
 
-older_leave : range.out (Tick 4) (range.near window (Tick 4))
-    ≡ RowAt 4 (leaves (one 7)) ∷ TickAt 4 ∷ []
+older_leave : out (Tick 4) (near window (Tick 4)) ≡ RowAt 4 (leaves (one 7)) ∷ TickAt 4 ∷ []
 older_leave = refl
 
-newer_stay : range.next window (Tick 4) ≡ (2, one 8) ∷ (4, one 9) ∷ []
+newer_stay : next window (Tick 4)
+    ≡ record { reach = Last 2; width = 1; held = (2, one 8) ∷ (4, one 9) ∷ []; shown = 2 }
 newer_stay = refl
 
-rows_are_held : range.next window (Rows 4 (enters (one 5) ∷ []))
-    ≡ (1, one 7) ∷ (2, one 8) ∷ (4, one 9) ∷ (4, one 5) ∷ []
+rows_are_shown : out (Rows 4 (enters (one 5) ∷ [])) (near window (Rows 4 (enters (one 5) ∷ [])))
+    ≡ RowAt 4 (enters (one 5)) ∷ []
+rows_are_shown = refl
+
+rows_are_held : next window (Rows 4 (enters (one 5) ∷ []))
+    ≡ record {
+      reach = Last 2;
+      width = 1;
+      held = (1, one 7) ∷ (2, one 8) ∷ (4, one 9) ∷ (4, one 5) ∷ [];
+      shown = 4;
+    }
 rows_are_held = refl
 
 -- Range 1 at the multiples of 2, which shows the row of the instant 1 and holds those of 2
 -- and 3: at the tick of 4 the first leaves, the second goes unshown, and the third is shown
-abbrev sliding : slide.SlideState
+abbrev sliding : InstantState
 sliding = record {
-  span = 1;
-  step = 2;
+  reach = Steps 1 2;
   width = 1;
   held = (1, one 7) ∷ (2, one 8) ∷ (3, one 9) ∷ [];
   shown = 1;
 }
 
-moves_at_multiples : slide.out (Tick 4) (slide.near sliding (Tick 4))
+moves_at_multiples : out (Tick 4) (near sliding (Tick 4))
     ≡ RowAt 4 (leaves (one 7)) ∷ RowAt 4 (enters (one 9)) ∷ TickAt 4 ∷ []
 moves_at_multiples = refl
 
-shows_the_rest : slide.next sliding (Tick 4)
-    ≡ record { span = 1; step = 2; width = 1; held = (3, one 9) ∷ []; shown = 1 }
+shows_the_rest : next sliding (Tick 4)
+    ≡ record { reach = Steps 1 2; width = 1; held = (3, one 9) ∷ []; shown = 1 }
 shows_the_rest = refl
 
-waits_between : slide.out (Tick 5) (slide.near sliding (Tick 5)) ≡ TickAt 5 ∷ []
+-- a turn at that tick needs the row that goes unshown, too
+needs_all_but_what_stays : near sliding (Tick 4)
+    ≡ record { at_once = false; leave = one 7 ∷ []; pass = one 8 ∷ []; enter = one 9 ∷ [] }
+needs_all_but_what_stays = refl
+
+waits_between : out (Tick 5) (near sliding (Tick 5)) ≡ TickAt 5 ∷ []
 waits_between = refl
 
-holds_unshown : slide.next sliding (Rows 4 (enters (one 5) ∷ []))
+holds_unshown : next sliding (Rows 4 (enters (one 5) ∷ []))
     ≡ record {
-      span = 1;
-      step = 2;
+      reach = Steps 1 2;
       width = 1;
       held = (1, one 7) ∷ (2, one 8) ∷ (3, one 9) ∷ (4, one 5) ∷ [];
       shown = 1;
@@ -70,12 +87,18 @@ holds_unshown : slide.next sliding (Rows 4 (enters (one 5) ∷ []))
 holds_unshown = refl
 
 -- Now holds the rows of the instant alone
-now_forgets : range.near (record { span = Some 0; width = 1; held = (1, one 7) ∷ (2, one 8) ∷ [] })
-    (Tick 2) ≡ one 7 ∷ []
+abbrev now : InstantState
+now = record { reach = Last 0; width = 1; held = (1, one 7) ∷ (2, one 8) ∷ []; shown = 2 }
+
+now_forgets : near now (Tick 2)
+    ≡ record { at_once = true; leave = one 7 ∷ []; pass = []; enter = [] }
 now_forgets = refl
 
-all_stay : range.near (record { span = None; width = 1; held = (1, one 7) ∷ (2, one 8) ∷ [] })
-    (Tick 9) ≡ []
+-- without a span all rows stay
+abbrev every : InstantState
+every = record { reach = All; width = 1; held = (1, one 7) ∷ (2, one 8) ∷ []; shown = 2 }
+
+all_stay : out (Tick 9) (near every (Tick 9)) ≡ TickAt 9 ∷ []
 all_stay = refl
 
 -- three rows of two columns as they are kept: one of the instant 1, and two of the instant 4

@@ -79,6 +79,13 @@ abbrev pub next : LatestState → Item → Row → List Row
 next s (Rows t b) = all_after s.columns s.count (held_in s.entries) b
 next s (Tick t) = held_in s.entries
 
+-- the same window, and of each partition what is next
+pub record IsAfterItem (s : LatestState) (i : Item) (new : LatestState) : Type 0 where
+  pub columns : new.columns ≡ s.columns
+  pub count : new.count ≡ s.count
+  pub width : new.width ≡ s.width
+  pub held : (k : Row) → held_in new.entries k ≡ next s i k
+
 -- no partition has more rows than it shows, and all have this many columns
 pub record AreParts (n w : ℕ) (held : Row → List Row) : Type 0 where
   pub few : (k : Row) → length (held k) ≤ n

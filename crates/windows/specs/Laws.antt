@@ -1,13 +1,19 @@
 -- The law of one step of a window, by the bag that the window shows
 -- (Arasu, Babu and Widom, "The CQL continuous query language", 2006).
-use Rattle.std.specs.Prelude.{ℕ, suc, take, length, ◌<◌, ◌≤◌, ◌≡◌, Bool, true, Option, Some, None}
-use Rattle.std.specs.Prelude.{List, [], ◌∷◌, ◌++◌, map, filter}
+use Rattle.std.specs.Prelude.{ℕ, suc, take, length, ◌+◌, ◌<◌, ◌≤◌, ◌≡◌, Bool, true, false, List, []}
+use Rattle.std.specs.Prelude.{◌∷◌, ◌++◌, map, filter}
 use Rattle.values.specs.Row.{Row, same_row}
-use Rattle.values.specs.Window.{Element, Window, Range, RangeSlide, Unbounded, LastRows, is_later}
+use Rattle.values.specs.Window.{Element, Window, LastRows, is_later}
 use Rattle.values.specs.Window.{plain, shows, window_rows}
+use Rattle.op_queue.specs.Paths.{rows_in}
 use Rattle.op_queue.specs.Signed.{Same, Turns}
-use Rattle.windows.specs.Latest.{key_in}
-use Rattle.windows.specs.Slide.{SlideState}
+use Rattle.op_queue.specs.declared.item.Item.TheVariants.{Rows, Tick}
+use Rattle.windows.specs.Instants.{InstantState}
+use Rattle.windows.specs.Latest.{held_in, key_in}
+use Rattle.windows.specs.Reach as reach
+use Rattle.windows.specs.Reach.{at_once}
+use Rattle.windows.specs.Windows.{WindowState, near, out, window_of}
+use Rattle.windows.specs.declared.window.Holding.TheVariants.{Instants, Latest}
 
 -- every item has P
 abbrev pub Each : {A : Type 0} → (A → Type 0) → List A → Type 0
@@ -58,16 +64,26 @@ pub record WindowTick (from : ℕ) (w : Window) (t : ℕ) (held : List Element) 
 abbrev pub coming : List Element → List (Bool × Row)
 coming es = map (λ e. (true, e.row)) es
 
--- ---- Range
--- without a span all rows are shown
-abbrev pub range_of : Option ℕ → Window
-range_of None = Unbounded
-range_of (Some n) = Range n
+-- some elements of a list, in its order
+pub record IsPart (part es : List Element) : Type 0 where
+  pub test : Element → Bool
+  pub is : part ≡ filter test es
 
--- what the state holds at the instant t are these elements
-pub record RangeStands (t : ℕ) (state : List (ℕ × Row)) (held : List Element) : Type 0 where
-  pub same : state ≡ plain held
+-- ---- instants
+-- at the open instant t it shows all that it holds, if rows are shown as soon as they
+-- come; else those that the window showed at the instant before
+abbrev pub AreShown : Bool → ℕ → ℕ → InstantState → List Element → Type 0
+AreShown true from t s held = s.shown ≡ length held
+AreShown false from t s held = (u : ℕ) → suc u ≡ t
+    → shown_of from (reach.window_of s.reach) u held ≡ take s.shown held
+
+-- at the open instant t the state holds these elements
+pub record InstantsStand (from t : ℕ) (s : InstantState) (held : List Element) : Type 0 where
+  pub same : s.held ≡ plain held
   pub up_to : AreUpTo t held
+  pub began : from ≤ t
+  pub few : s.shown ≤ length held
+  pub shown : AreShown (at_once s.reach) from t s held
 
 -- ---- the last rows of each partition
 abbrev pub is_of : List ℕ → Row → Element → Bool
@@ -82,17 +98,35 @@ pub record LatestStands (from : ℕ) (columns : List ℕ) (n t : ℕ) (state : R
   pub up_to : AreUpTo t held
   pub shown : shown_of from (LastRows columns n) t held ≡ held
 
--- ---- Range with a Slide
--- at the open instant t the state holds these elements, and
--- it shows those that the window showed at the instant before
-pub record SlideStands (from t : ℕ) (s : SlideState) (held : List Element) : Type 0 where
-  pub same : s.held ≡ plain held
-  pub up_to : AreUpTo t held
-  pub began : from ≤ t
-  pub few : s.shown ≤ length held
-  pub shown : (u : ℕ) → suc u ≡ t
-      → shown_of from (RangeSlide s.span s.step) u held ≡ take s.shown held
+-- ---- any window
+-- at the open instant t the state holds these elements
+abbrev pub Stands : ℕ → ℕ → WindowState → List Element → Type 0
+Stands from t (Instants s) held = InstantsStand from t s held
+Stands from t (Latest s) held = LatestStands from s.columns s.count t (held_in s.entries) held
 
--- what it has put out
-abbrev pub slide_shows : SlideState → List Element → List Row
-slide_shows s held = rows_in_order (take s.shown held)
+-- what it has put out of them
+abbrev pub shown_by : WindowState → List Element → List Row
+shown_by (Instants s) held = rows_in_order (take s.shown held)
+shown_by (Latest s) held = rows_in_order held
+
+-- IT TAKES THE ROWS of the elements es at the instant t
+pub record TakesRows (from t : ℕ) (s new : WindowState) (held es : List Element) : Type 0 where
+  pub held2 : List Element
+  pub law : WindowRows from (window_of s) t held (shown_by s held) es
+      (rows_in (out (Rows t (coming es)) (near s (Rows t (coming es))))) held2 (shown_by new held2)
+  pub part : IsPart held2 (held ++ es)
+  pub stands : Stands from t new held2
+
+-- IT TAKES THE TICK of the instant t
+pub record TakesTick (from t : ℕ) (s new : WindowState) (held : List Element) : Type 0 where
+  pub held2 : List Element
+  pub law : WindowTick from (window_of s) t held (shown_by s held)
+      (rows_in (out (Tick t) (near s (Tick t)))) held2 (shown_by new held2)
+  pub part : IsPart held2 held
+  pub stands : Stands from (t + 1) new held2
+
+-- IT PASSES THE TICKS from the instant n to below b: what it has put out is what it shows at each
+pub record PassesTicks (from n b : ℕ) (s : WindowState) (held : List Element) : Type 0 where
+  pub still : (t : ℕ) → n ≤ t → t < b
+      → Same (shown_by s held) (window_rows from (window_of s) t held)
+  pub stands : Stands from b s held

@@ -1,9 +1,10 @@
 pub mod Widths
 pub mod Held
 pub mod Fallen
-pub mod Range
+pub mod Reach
+pub mod Instants
 pub mod Latest
-pub mod Slide
+pub mod Windows
 pub mod Rooms
 pub mod Grown
 pub mod Back

@@ -15,10 +15,6 @@ abbrev pub AreWide : ℕ → List Row → Type 0
 AreWide w rows = All (λ r. length r ≡ w) rows
 
 -- all rows have as many columns, whatever their number
-abbrev pub HaveOneWidthAll : List Row → Type 0
-HaveOneWidthAll rows = (w : ℕ) × AreWide w rows
-
--- the same of signed rows
 abbrev pub HaveOneWidth : List (Bool × Row) → Type 0
 HaveOneWidth rows = (w : ℕ) × All (λ r. length r.1 ≡ w) rows
 

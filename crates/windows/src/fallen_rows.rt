@@ -13,7 +13,7 @@ use values::{Row, Value};
 /// Holds for each row of an item the row that falls out of its partition after it, if one does. It
 /// takes a byte for each row of the item, and eight for each value of those that fall.
 #[derive(Drop)]
-pub struct FallenRows {
+pub(crate) struct FallenRows {
     /// Says for each row of the item, in order, whether a row falls out after it.
     falls: Vec<bool>,
     /// Holds the rows that fall out, in order.
@@ -34,7 +34,7 @@ impl Model for FallenRows {
 
 impl FallenRows {
     /// Returns the list of an item without rows. Takes no memory.
-    pub fn new(alloc: Global) -> FallenRows
+    pub(crate) fn new(alloc: Global) -> FallenRows
         ensures { result ≡ [] }
     {
         FallenRows {
@@ -53,14 +53,14 @@ impl FallenRows {
     }
 
     /// Returns how many rows the item has.
-    pub fn len(&self) -> usize
+    pub(crate) fn len(&self) -> usize
         ensures { result ≡ length self.now }
     {
         self.falls.len()
     }
 
     /// Returns whether the lists have the same rows at the same places.
-    pub fn is_same(&self, other: &FallenRows) -> bool
+    pub(crate) fn is_same(&self, other: &FallenRows) -> bool
         ensures { IsTrue result ↔ (self.now ≡ other.now) }
     {
         self.falls == other.falls && self.rows.is_same(&other.rows)

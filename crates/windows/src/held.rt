@@ -4,7 +4,7 @@ ghost use Rattle.std.specs.Prelude.{IfOk, OnOk, OnErr, nat_lt};
 ghost use Rattle.std.specs.List.{filter};
 ghost use Rattle.std.specs.List.Sorted.{IsNonDecreasingBy};
 ghost use Rattle.column.specs.Rows.{IsTable, width};
-ghost use Rattle.windows.specs.Range.{held_at, with_sign};
+ghost use Rattle.windows.specs.Instants.{held_at, with_sign};
 
 use crate::flat_rows::FlatRows;
 use crate::row_table::RowTable;
@@ -36,6 +36,7 @@ impl Model for HeldRows {
 }
 
 impl HeldRows {
+    /// Returns a list of no row, each of which will have `width` values.
     pub(crate) fn new(alloc: Global, width: usize) -> HeldRows
         ensures width { result.width ≡ width }
         ensures held { result.held ≡ [] }
@@ -46,22 +47,11 @@ impl HeldRows {
         }
     }
 
+    /// Returns the number of rows.
     pub(crate) fn len(&self) -> usize
         ensures { result ≡ length self.now.held }
     {
         self.rows.len()
-    }
-
-    /// Returns a copy of the rows of instants below `first`. It costs these rows.
-    pub(crate) fn older(&self, alloc: Global, first: u64) -> Result<RowTable, AllocError>
-        requires { IsNonDecreasingBy (λ h. h.0) self.now.held }
-        ensures { IfOk result (λ rows. rows
-            ≡ map (λ h. h.1) (filter (λ h. nat_lt h.0 first) self.now.held)) }
-    {
-        let _len = self.rows.len(); // for the proof
-        let count = count_below(&self.runs, first);
-        let rows = self.rows.part(alloc, 0, count)?;
-        Ok(rows)
     }
 
     /// Returns how many rows of instants below `first` are held. They are in front.
@@ -91,6 +81,9 @@ impl HeldRows {
     }
 
     /// Returns a copy of the rows from one place on to another.
+    ///
+    /// # Errors
+    /// `AllocError` when out of memory; nothing has changed.
     pub(crate) fn part(&self, alloc: Global, from: usize, to: usize) -> Result<RowTable, AllocError>
         requires ordered { from ≤ to }
         requires within { to ≤ length self.now.held }
@@ -102,6 +95,9 @@ impl HeldRows {
     }
 
     /// Returns a copy of `count` rows from the place `from` on, as rows that enter or leave.
+    ///
+    /// # Errors
+    /// `AllocError` when out of memory; nothing has changed.
     pub(crate) fn signed(
         &self,
         alloc: Global,
@@ -120,6 +116,10 @@ impl HeldRows {
     }
 
     /// Adds the rows of a batch, with this instant.
+    ///
+    /// # Errors
+    /// `AllocError` when out of memory, or if there would be more rows than a `usize` counts; then
+    /// the rows stay as they were.
     pub(crate) fn enter(&mut self, at: u64, batch: &Batch) -> Result<(), AllocError>
         requires { width batch.now ≡ self.old.width }
         ensures width { self.new.width ≡ self.old.width }

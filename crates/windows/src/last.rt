@@ -28,6 +28,7 @@ impl Model for Last {
 }
 
 impl Last {
+    /// Returns a list of no row.
     pub(crate) fn new(alloc: Global) -> Last
         ensures { result ≡ [] }
     {
@@ -37,6 +38,7 @@ impl Last {
         }
     }
 
+    /// Returns the number of rows.
     pub(crate) fn len(&self) -> usize
         ensures { result ≡ length self.now }
     {

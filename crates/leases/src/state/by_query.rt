@@ -588,7 +588,7 @@ impl EngineState {
             stopped,
         } = job;
         self.put_back(query, remains, turns);
-        self.change_slots(&slots);
+        self.update_standing_slots(&slots);
         !stopped
     }
 

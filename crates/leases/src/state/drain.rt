@@ -1,17 +1,18 @@
 //! Drains: runs turns in place until nothing is ready, or so many have run.
 ghost use Rattle.std.specs.Prelude.{◌≡◌, ◌↔◌, ◌<◌, ◌≤◌, ◌+◌, Err, IfErr, IfOk, IsTrue, None};
 ghost use Rattle.std.specs.Prelude.{Ok, OnErr, OnOk, Some, false, true};
+ghost use Rattle.std.specs.List.{AllByRecursion};
 ghost use Rattle.reference.specs.World.{drain_fault};
 ghost use Rattle.reference.specs.declared.fault.Fault.TheVariants.{BadLimit, OutOfMemory};
 ghost use Rattle.reference.specs.declared.fault.Fault.TheVariants.{TooManyLeases};
 ghost use Rattle.run_queue.specs.Slots.{Stands, first_of};
 ghost use Rattle.laws_queries.specs.Queries.{PlainQuery};
 ghost use Rattle.laws_engine.specs.Engines.{Running};
-ghost use Rattle.leases.specs.Applied.{GivesNothing, IsAbove};
+ghost use Rattle.leases.specs.Applied.{AllStand, GivesNothing, IsAbove};
 ghost use Rattle.leases.specs.Asked.{HasOperatorAt};
 ghost use Rattle.leases.specs.Drains.{LeavesOthers, OneOrMoreHaveRun, RanOutAfterTurns};
 ghost use Rattle.leases.specs.Drains.{RanOutBelow, RunsFirst, RunsTurns, as_drained};
-ghost use Rattle.leases.specs.Readers.{next_for, with_slots, with_update};
+ghost use Rattle.leases.specs.Readers.{next_for, with_slots, with_update, with_updates};
 ghost use Rattle.leases.specs.Runs.{HasRunIn, HasRunOn, HasStoppedIn, HasStoppedOn, MayRunIn};
 ghost use Rattle.leases.specs.Runs.{MayRunOn};
 ghost use Rattle.leases.specs.Shown.{engine_in};
@@ -280,6 +281,20 @@ impl EngineState {
     {
         let next = self.next_for(slot.query(), slot.operator());
         self.slots.update(*slot, next);
+    }
+
+    /// Gives each of the slots what its operator may take next, one after the other. They are in
+    /// the queue as they are given, each of another operator.
+    pub(crate) fn update_standing_slots(&mut self, slots: &[Slot])
+        requires here { AllByRecursion (λ s.
+            HasOperatorAt (engine_in self.old) s.query s.operator) slots.now }
+        requires stand { AllStand self.old.slots slots.now }
+        ensures { self.new
+            ≡ with_slots self.old (with_updates (engine_in self.old) slots.now self.old.slots) }
+    {
+        for place in 0..slots.len() {
+            self.update_standing_slot(&slots[place]);
+        }
     }
 
     /// Runs a turn of the slot in its query.

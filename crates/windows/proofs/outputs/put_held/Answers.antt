@@ -2,7 +2,7 @@ use Rattle.std.proofs.Common.{◌≡◌, ap, arith, drop, map, subst, sym, take,
 use Rattle.values.specs.Row.{Row}
 use Rattle.op_queue.proofs.GainLemmas.{gained-none, gained-same, on_any_err}
 use Rattle.windows.specs.Grown.{HasGrownAt}
-use Rattle.windows.specs.Range.{with_sign}
+use Rattle.windows.specs.Instants.{with_sign}
 use Rattle.windows.proofs.LeavingLemmas.{forward_more, gained_more, rows_at, signed_part}
 use Rattle.windows.proofs.outputs.put_held.Goals as goal
 

@@ -1,6 +1,6 @@
 use Rattle.std.proofs.Common.{ap, ap₂, ◌∙◌, map, replicate, List, ℕ, ◌++◌}
 use Rattle.windows.specs.Held.{HeldState, instants_in}
-use Rattle.windows.specs.Range.{held_at}
+use Rattle.windows.specs.Instants.{held_at}
 use Rattle.windows.proofs.HeldLemmas.{zip-enter}
 use Rattle.windows.proofs.held.HeldRows.enter.Goals as goal
 

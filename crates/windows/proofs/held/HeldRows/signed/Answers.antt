@@ -2,7 +2,7 @@ use Rattle.std.proofs.Common.{ap, sym, ◌∙◌, arith, length, List, map, drop
 use Rattle.std.proofs.lemmas.Slice.Zip.{seconds-zip}
 use Rattle.values.specs.Row.{Row}
 use Rattle.windows.specs.Held.{HeldState, instants_in}
-use Rattle.windows.specs.Range.{with_sign}
+use Rattle.windows.specs.Instants.{with_sign}
 use Rattle.windows.proofs.HeldLemmas.{length-held}
 use Rattle.windows.proofs.held.HeldRows.signed.Goals as goal
 

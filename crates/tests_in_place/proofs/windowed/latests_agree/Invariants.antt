@@ -1,8 +1,0 @@
-use Rattle.std.proofs.Common.{◌≡◌}
-use Rattle.tests_in_place.proofs.windowed.latests_agree.Given as goal
-
-abbrev pub invariant-loop-came : goal.invariant-loop-came
-invariant-loop-came l = record {
-  wide : l.placed.width ≡ 2;
-  wide_other : l.stepped.width ≡ 2;
-}

@@ -1,5 +1,0 @@
-use Rattle.tests_in_place.proofs.TurnLemmas.{range_forward}
-use Rattle.tests_in_place.proofs.windowed.range_run.Goals as goal
-
-pub run-requires-clause-forward : goal.run-requires-clause-forward
-run-requires-clause-forward c = range_forward c.new-queue.result.entries c.args.window.now c.args.item c.new-queue.ensures.entries

@@ -1,0 +1,13 @@
+use Rattle.std.proofs.Common.{◌∙◌, subst}
+use Rattle.std.specs.List.Sorted.{IsNonDecreasingBy}
+use Rattle.windows.specs.Instants.{InstantState}
+use Rattle.windows.proofs.InstantsLemmas.{moved_is, past_few}
+use Rattle.windows.proofs.instants.InstantWindow.run_move.Goals as goal
+
+pub leave-requires : goal.leave-requires
+leave-requires c = past_few c.args.self.now c.args.at c.count_past-older.result c.count_past-older.ensures
+
+pub returns-clause-next : goal.returns-clause-next
+returns-clause-next c =
+    c.leave.ensures
+    ∙ moved_is c.args.self.now c.args.at c.count_past-older.result (subst (λ (s : InstantState). IsNonDecreasingBy (λ h. h.0) s.held) c.self.view_is c.self.invariant.order.ordered) c.count_past-older.ensures

@@ -27,3 +27,4 @@ pub mod Alike
 pub mod AlikeExamples
 pub mod WhereOf
 pub mod WhereOfExamples
+pub mod Settled

@@ -19,17 +19,6 @@ use Rattle.leases.specs.Openings.{opening_in}
 use Rattle.histories.specs.Histories.{Replays}
 use Rattle.hub.specs.Steps.{Hands, IsReady, IsReplayed, PlainLocked, SeesReady, engine_at, with_engine}
 
-pub none_ready : (e : PlainEngine) → first_of e.slots ≡ None → HasReady e → ⊥
-none_ready e none ready =
-    let h = subst (λ o. is_some o ≡ true) none ready in
-    absurd (cc)
-
-pub no_fault : (old new : PlainEngine) (f : Fault) → f ≡ BadLimit → RunsTurns old 1 (Err f) new → ⊥
-no_fault old new f is runs =
-    let h : RunsTurns old 1 (Err BadLimit) new = subst (λ x. RunsTurns old 1 (Err x) new) is runs in
-    let k : None ≡ Some BadLimit = h.0 in
-    absurd (cc)
-
 -- a look that found something ready
 pub ready_at : (l : PlainLocked) (r : Bool) → SeesReady l r → IsTrue r → (x : PlainLocked) × IsReady x
 ready_at l r h is = (l, record { legal = h.legal; ready = h.is.0 is })

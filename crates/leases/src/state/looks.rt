@@ -97,13 +97,6 @@ impl EngineState {
         self.streams.len() as u64
     }
 
-    /// Returns the number that the next query gets.
-    pub(crate) fn next_query(&self) -> u64
-        ensures { result ≡ length (engine_in self.now).machine.queries }
-    {
-        self.registered.len() as u64
-    }
-
     /// Returns whether a turn of the operator is out.
     pub(crate) fn is_leased(&self, query: u64, operator: usize) -> bool
         ensures { result ≡ is_leased (engine_in self.now) query operator }

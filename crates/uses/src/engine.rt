@@ -180,9 +180,7 @@ fn a_drain_stops_after_some_turns<R: Print>(rt: &R, alloc: Global) -> Result<(),
     for turns in [0, 1, 1_000] {
         let more = engine.drain_some(256, turns)?;
         let ready = engine.has_ready();
-        println!(rt;
-            "a_drain_stops_after_some_turns: after {turns}, more {more}, ready {ready}"
-        )?;
+        println!(rt; "a_drain_stops_after_some_turns: after {turns}, more {more}, ready {ready}")?;
     }
     let answers = engine.take(0, 100)?;
     println!(rt; "a_drain_stops_after_some_turns: {answers:?}")?;

@@ -347,5 +347,7 @@ fn run_in(
         → (p2 : PlainQuery) × ((remains_of remains.new ≡ Running p2)
         × HasStoppedOn refused streams.now p slot.now rows p2)) }
 {
-    remains.running_mut().run(alloc, streams, slot.operator(), slot.side(), rows)
+    remains
+        .running_mut()
+        .run(alloc, streams, slot.operator(), slot.side(), rows)
 }

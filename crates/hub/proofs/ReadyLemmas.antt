@@ -1,5 +1,5 @@
 -- What a look at an engine shows that runs no turn.
-use Rattle.std.proofs.Common.{◌≡◌, ℕ, Bool, true, false, ◌&&◌, ◌||◌, not, is_some, [], ◌∷◌, length, None, Some, Result, Ok, Err, refl, subst, sym}
+use Rattle.std.proofs.Common.{◌≡◌, ℕ, Bool, true, false, ◌&&◌, ◌||◌, not, is_some, [], ◌∷◌, length, None, Result, Ok, refl, subst, sym}
 use Rattle.std.specs.Prelude.{nat_le}
 use Rattle.names.specs.Faults.{first_of as first_fault}
 use Rattle.reference.specs.declared.fault.Fault.{Fault}
@@ -10,7 +10,7 @@ use Rattle.laws_engine.specs.Engines.{PlainEngine}
 use Rattle.reference.specs.World.{drain_fault}
 use Rattle.leases.specs.ByQuery.{RunsByQuery}
 use Rattle.leases.specs.Drains.{RunsTurns, as_drained}
-use Rattle.leases.specs.Turns.{HasReady, lease_fault}
+use Rattle.leases.specs.Turns.{lease_fault}
 use Rattle.laws_engine.specs.Promises.{HasAllWaiting}
 use Rattle.leases.specs.declared.leased.Leased.TheVariants.{Idle}
 use Rattle.leases.specs.declared.limits.TheConstants.{LEASE_NUMBERS, MAX_LEASES}

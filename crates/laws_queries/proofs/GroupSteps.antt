@@ -28,7 +28,7 @@ use Rattle.turn.specs.declared.kinds.Kind.{Kind}
 use Rattle.turn.specs.declared.kinds.Kind.TheVariants as kind
 use Rattle.turn.specs.declared.outcomes.Change.{Change}
 use Rattle.operators.specs.Operators.{PlainOperator, HasNamedColumns, IsFinished}
-use Rattle.operators.specs.States.{HasColumns, HasStood, IsNext, Takes, near_of, shown_in, usable}
+use Rattle.operators.specs.States.{HasColumns, HasStood, IsNext, Takes, near_of, usable}
 use Rattle.operators.specs.declared.states.State.{State}
 use Rattle.operators.specs.declared.states.State.TheVariants as state
 use Rattle.plan.specs.Nodes as plan
@@ -158,7 +158,7 @@ module _ (s : GroupState) (o o2 : PlainOperator) (log : Closed) (it : queue.Item
   next_is : IsFinished o log Left it (change_at o.kind it (near_of o.state Left it)) o2 → o2.state ≡ state.Groups (after_item s it)
   next_is h =
       subst (λ (held : State). IsNext held Left it (change_at o.kind it (near_of o.state Left it)) o2.state) is_state h.state
-      ∙ ap (λ (c : Change). state.Groups (group.next s it (shown_in c)))
+      ∙ ap (λ (c : Change). state.Groups (group.next s it c.shown))
       (ap₂ (λ (what : Kind) (held : State). change_at what it (near_of held Left it)) is_kind is_state)
 
   -- there is room for the item where few rows were taken

@@ -1,4 +1,5 @@
 pub mod Views
+pub mod Lending
 pub mod Shown
 pub mod Asked
 pub mod Sound

@@ -1,4 +1,5 @@
 //! Keeps what is left of a registered query.
+ghost use Rattle.std.specs.Borrow.{sem};
 ghost use Rattle.std.specs.Prelude.{◌≡◌, IfOk};
 ghost use Rattle.laws_engine.specs.Engines.{Broken, Running, answers_in};
 ghost use Rattle.laws_queries.specs.Queries.{PlainQuery};
@@ -24,6 +25,20 @@ pub(crate) enum Remains {
 }
 
 impl Remains {
+    ghost use Rattle.leases.specs.Lending.{LendsRunning};
+
+    /// Returns the query, which runs, to be changed.
+    pub(crate) fn running_mut(&mut self) -> &mut RunningQuery
+        requires { (p : PlainQuery) × (remains_of self.old ≡ Running p) }
+        ensures* writes_back { sem 𝓛 (LendsRunning self.entry result) }
+        ensures value { remains_of self.old ≡ Running result.now }
+    {
+        match self {
+            Remains::Running(query) => query,
+            _ => unreachable!(),
+        }
+    }
+
     /// Counts the waiting answers; `None` if the query was dropped.
     pub(crate) fn waiting(&self) -> Option<usize>
         ensures { result ≡ waiting_in (remains_of self.now) }

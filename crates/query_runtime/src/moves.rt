@@ -23,10 +23,7 @@ pub(crate) fn log_at(streams: &Streams, stream: u64) -> &Log
     requires { stream < length streams.now }
     ensures { result.now ≡ stream_log streams.now stream }
 {
-    match streams.log(stream) {
-        Some(log) => log,
-        None => unreachable!(),
-    }
+    streams.all()[stream as usize].log()
 }
 
 /// Returns what is first on a side of an operator, and the excerpt that a turn with it needs.

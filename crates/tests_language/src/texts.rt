@@ -4,7 +4,7 @@ ghost use Rattle.cql_reader.specs.WellFormed.{IsWellFormed};
 
 use crate::answers::{are, row};
 use cql_reader::{Name, Query, every_query_is_well_formed, every_text_has_one_answer, read};
-use names::{Catalog, resolve};
+use names::{Catalog, ResolveError};
 use plan::{fits_a_row, plans_are_right};
 use reference::{
     answers, answers_only_grow, equal_window_bags_have_equal_answers,
@@ -43,12 +43,10 @@ fn answered(
     if !fits_a_row(query, catalog) || query.sources.len() != inputs.len() {
         return Ok(None);
     }
-    match resolve(alloc, query, catalog) {
-        Ok(named) if named.streams.len() == 1 => {
-            let answers = answers(alloc, query, catalog, inputs, -1, 3)?;
-            Ok(Some(answers))
-        }
-        _ => Ok(None),
+    match answers(alloc, query, catalog, inputs, -1, 3) {
+        Ok(answers) => Ok(Some(answers)),
+        Err(ResolveError::OutOfMemory) => Err(AllocError),
+        Err(ResolveError::Fault(_)) => Ok(None),
     }
 }
 

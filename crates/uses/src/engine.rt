@@ -173,12 +173,14 @@ fn a_drain_answers_the_same_by_any_turns<R: Print>(rt: &R, alloc: Global) -> Res
 /// Shows a drain of a few turns at a time.
 ///
 /// A drain of no turns only looks: two rows wait at the Window. One turn leaves work to do. A
-/// thousand turns are enough for the rest, and then all answers wait.
+/// thousand turns are enough for the rest, and then all answers wait. A look says the same each
+/// time.
 fn a_drain_stops_after_some_turns<R: Print>(rt: &R, alloc: Global) -> Result<(), Stop> {
     let mut engine = filled(alloc)?;
     for turns in [0, 1, 1_000] {
         let more = engine.drain_some(256, turns)?;
-        println!(rt; "a_drain_stops_after_some_turns: after {turns}, more {more}")?;
+        let ready = engine.has_ready();
+        println!(rt; "a_drain_stops_after_some_turns: after {turns}, more {more}, ready {ready}")?;
     }
     let answers = engine.take(0, 100)?;
     println!(rt; "a_drain_stops_after_some_turns: {answers:?}")?;
@@ -364,13 +366,16 @@ fn a_dropped_query_is_gone<R: Print>(rt: &R, alloc: Global) -> Result<(), Stop> 
 
 /// Shows how to find a number by a name.
 ///
-/// S is the stream 0, and `q` is the query 0. There is no stream T.
+/// S is the stream 0, and `q` is the query 0. There is no stream T. The next stream and the next
+/// query get the number 1.
 fn a_name_leads_to_a_number<R: Print>(rt: &R, alloc: Global) -> Result<(), Stop> {
     let engine = engine_with(alloc, NOW)?;
     let s = engine.stream_named("S");
     let t = engine.stream_named("T");
     let q = engine.query_named("q");
     println!(rt; "a_name_leads_to_a_number: S {s:?}, T {t:?}, q {q:?}")?;
+    let (stream, query) = (engine.next_stream(), engine.next_query());
+    println!(rt; "a_name_leads_to_a_number: next stream {stream}, next query {query}")?;
     Ok(())
 }
 

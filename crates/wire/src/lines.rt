@@ -85,10 +85,7 @@ fn keep(line: &mut Vec<u8>, fits: bool, piece: &[u8]) -> bool
     if !fits || piece.len() > LONGEST_LINE - line.len().min(LONGEST_LINE) {
         return false;
     }
-    if line.extend_from_slice(piece).is_err() {
-        unreachable!();
-    }
-    true
+    line.extend_from_slice(piece).is_ok()
 }
 
 #[derive(Drop)]

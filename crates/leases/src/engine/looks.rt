@@ -1,8 +1,9 @@
 //! Makes an empty engine, and shows its turns, answers and queues.
-ghost use Rattle.std.specs.Prelude.{◌≡◌, length};
+ghost use Rattle.std.specs.Prelude.{◌≡◌, ◌↔◌, IsTrue, length};
 ghost use Rattle.laws_engine.specs.Promises.{KeepsItsPromises};
 ghost use Rattle.leases.specs.Looks.{IsPending, WaitsAt};
 ghost use Rattle.leases.specs.Shown.{engine_in, world_in};
+ghost use Rattle.leases.specs.Turns.{HasReady};
 ghost use Rattle.leases.specs.Views.{empty_engine};
 ghost use Rattle.leases.specs.Whole.{IsWhole};
 ghost use Rattle.reference.specs.World as world;
@@ -34,6 +35,35 @@ impl Engine {
         ensures { result ≡ length (engine_in self.now).leases }
     {
         self.state.leases.len()
+    }
+
+    /// Returns whether an operator may take something, so that a lease would find one. Takes no
+    /// memory.
+    ///
+    /// Example: `a_drain_stops_after_some_turns` in crates/uses/src/engine.rt.
+    pub fn has_ready(&self) -> bool
+        ensures { IsTrue result ↔ HasReady (engine_in self.now) }
+    {
+        self.state.any_ready()
+    }
+
+    /// Returns the number that the next stream gets: how many were declared. Takes no memory.
+    ///
+    /// Example: `a_name_leads_to_a_number` in crates/uses/src/engine.rt.
+    pub fn next_stream(&self) -> u64
+        ensures { result ≡ length (engine_in self.now).machine.streams }
+    {
+        self.state.next_stream()
+    }
+
+    /// Returns the number that the next query gets: how many were registered, also of those that
+    /// were dropped. Takes no memory.
+    ///
+    /// Example: `a_name_leads_to_a_number` in crates/uses/src/engine.rt.
+    pub fn next_query(&self) -> u64
+        ensures { result ≡ length (engine_in self.now).machine.queries }
+    {
+        self.state.next_query()
     }
 
     /// Returns how many answers of the query with this number wait. The answers already taken,

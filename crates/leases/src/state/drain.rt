@@ -347,8 +347,7 @@ fn run_in(
         → (p2 : PlainQuery) × ((remains_of remains.new ≡ Running p2)
         × HasStoppedOn refused streams.now p slot.now rows p2)) }
 {
-    match remains {
-        Remains::Running(query) => { query.run(alloc, streams, slot.operator(), slot.side(), rows) }
-        _ => unreachable!(),
-    }
+    remains
+        .running_mut()
+        .run(alloc, streams, slot.operator(), slot.side(), rows)
 }

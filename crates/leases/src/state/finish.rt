@@ -176,15 +176,12 @@ fn take_turn(remains: &mut Remains, streams: &Streams, parts: Parts) -> Result<(
         outputs,
         change,
     } = parts;
-    match remains {
-        Remains::Running(query) => query.finish(
-            streams,
-            node.operator,
-            node.side,
-            item.item(),
-            &change,
-            outputs,
-        ),
-        _ => unreachable!(),
-    }
+    remains.running_mut().finish(
+        streams,
+        node.operator,
+        node.side,
+        item.item(),
+        &change,
+        outputs,
+    )
 }

@@ -1,5 +1,5 @@
 //! Makes the state of an empty engine, and looks up what calls need.
-ghost use Rattle.std.specs.Prelude.{◌≡◌, ◌<◌, IfSome, Some, length, slice_get};
+ghost use Rattle.std.specs.Prelude.{◌≡◌, ◌↔◌, ◌<◌, IfSome, IsTrue, Some, length, slice_get};
 ghost use Rattle.std.specs.Option.{option_map};
 ghost use Rattle.reference.specs.Commands.{Drop, first_fault};
 ghost use Rattle.reference.specs.Machine as machine;
@@ -10,6 +10,7 @@ ghost use Rattle.laws_engine.specs.Engines.{Running, is_leased, next_at, query_a
 ghost use Rattle.laws_engine.specs.Engines.{slope_at, slot_at};
 ghost use Rattle.leases.specs.Asked.{HasOperatorAt, IsRunningAt};
 ghost use Rattle.leases.specs.Shown.{engine_in};
+ghost use Rattle.leases.specs.Turns.{HasReady};
 ghost use Rattle.leases.specs.Views.{query_of};
 
 use crate::registered::Registration;
@@ -80,6 +81,20 @@ impl EngineState {
             Remains::Running(query) => query,
             _ => unreachable!(),
         }
+    }
+
+    /// Returns whether an operator may take something.
+    pub(crate) fn any_ready(&self) -> bool
+        ensures { IsTrue result ↔ HasReady (engine_in self.now) }
+    {
+        self.slots.first().is_some()
+    }
+
+    /// Returns the number that the next stream gets.
+    pub(crate) fn next_stream(&self) -> u64
+        ensures { result ≡ length (engine_in self.now).machine.streams }
+    {
+        self.streams.len() as u64
     }
 
     /// Returns whether a turn of the operator is out.

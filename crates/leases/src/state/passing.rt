@@ -132,8 +132,5 @@ fn pass_in(remains: &mut Remains, until: u64)
     ensures { (p : PlainQuery) → remains_of remains.old ≡ Running p
         → (p2 : PlainQuery) × ((remains_of remains.new ≡ Running p2) × HavePassed until p p2) }
 {
-    match remains {
-        Remains::Running(query) => query.pass(until),
-        _ => unreachable!(),
-    }
+    remains.running_mut().pass(until);
 }

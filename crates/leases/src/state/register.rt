@@ -126,7 +126,7 @@ impl EngineState {
 
     /// Returns the number of the next query.
     #[tactic(auto, using(crate::proofs::AddLemmas::many_told))]
-    fn next_query(&self) -> u64
+    pub(crate) fn next_query(&self) -> u64
         ensures { result ≡ length (engine_in self.now).machine.queries }
     {
         self.registered.len() as u64

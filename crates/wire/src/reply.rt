@@ -194,7 +194,7 @@ pub fn seen(answer: Result<Seen, Fault>) -> Reply
 {
     match answer {
         Ok(seen) => Reply::Seen(seen),
-        Err(fault) => Reply::Refused(fault),
+        Err(refused) => Reply::Refused(refused),
     }
 }
 

@@ -93,7 +93,8 @@ pub(crate) fn is_done(reply: &Reply) -> bool
     matches!(reply, Reply::Done)
 }
 
-// Returns the first instant of a stream, the instant of a heartbeat, or the limit of a take; else 0.
+// Returns the first instant of a stream, the instant of a heartbeat, or the limit of a take.
+// Returns 0 for any other request.
 fn number_in(request: &Request) -> i64
     ensures { result ≡ number_in request.now }
 {

@@ -121,8 +121,8 @@ fn show<E: Answering>(engine: &E, asked: &Look) -> Reply
 /// Answers as the machine does, or says what is scarce. Out of memory replaces only an acceptance
 /// or a fault of a query's text, and never the answer to a drop. Then nothing has changed, except
 /// that a drain may have made some answers wait. Only a drain can run out of numbers for turns:
-/// then the engine has none left. A drain, a take, a `forget`, and each look except at a plan need an
-/// engine that is whole.
+/// then the engine has none left. A drain, a take, a `forget`, and each look except at a plan need
+/// an engine that is whole.
 ///
 /// Forgets rows that no later answer needs, at a `forget` and, if that pays, after a drain. No
 /// later call can distinguish the world from the machine's.

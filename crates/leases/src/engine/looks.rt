@@ -1,7 +1,7 @@
 //! Makes an empty engine, and shows its turns, answers and queues.
 ghost use Rattle.std.specs.Prelude.{◌≡◌, length};
 ghost use Rattle.reference.specs.Looks.{NeedsWhole, Sees, look_at, look_of, peek_rows, seen_in};
-ghost use Rattle.reference.specs.Looks.{seen_of, show_plan};
+ghost use Rattle.reference.specs.Looks.{seen_of, show_plan, show_status};
 ghost use Rattle.reference.specs.World.{Looks};
 ghost use Rattle.laws_engine.specs.Promises.{KeepsItsPromises};
 ghost use Rattle.leases.specs.Looks.{IsPending, Shows, WaitsAt};
@@ -77,7 +77,7 @@ impl Engine {
         match look {
             Look::Peek { query, limit } => self.peek_named(query.as_str(), *limit),
             Look::Plan { query } => self.slopes_named(query.as_str()),
-            Look::Status => Ok(Seen::Status(self.status()?)),
+            Look::Status => self.status_seen(),
         }
     }
 
@@ -96,11 +96,25 @@ impl Engine {
 
     /// Returns what each operator of the query with this name does, and its slope.
     fn slopes_named(&self, query: &str) -> Result<Seen, Fault>
-        ensures { Looks seen_of (look_at (world_in self.now) (show_plan query.now)) result }
+        ensures looks { Looks seen_of (look_at (world_in self.now) (show_plan query.now)) result }
+        ensures shows { Shows (engine_in self.now) (show_plan query.now) (seen_in result) }
     {
         match self.query_named(query) {
             Some(number) => Ok(Seen::Operators(self.slopes(number)?)),
             None => Err(Fault::UnknownQuery),
+        }
+    }
+
+    /// Returns how far each stream and each undropped query is.
+    fn status_seen(&self) -> Result<Seen, Fault>
+        ensures looks { IsWhole self.now
+            → Looks seen_of (look_at (world_in self.now) show_status) result }
+        ensures sees { Sees (world_in self.now) show_status (seen_in result) }
+        ensures shows { Shows (engine_in self.now) show_status (seen_in result) }
+    {
+        match self.status() {
+            Ok(status) => Ok(Seen::Status(status)),
+            Err(fault) => Err(fault),
         }
     }
 }

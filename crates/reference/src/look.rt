@@ -9,14 +9,9 @@ use plan::NodeKind;
 #[derive(Drop)]
 pub enum Look {
     /// Looks at the answers that a take of the query would return, at most `limit`.
-    Peek {
-        query: String,
-        limit: i64,
-    },
+    Peek { query: String, limit: i64 },
     /// Looks at the operators of the query and their slopes.
-    Plan {
-        query: String,
-    },
+    Plan { query: String },
     /// Looks at how far each stream and each undropped query is.
     Status,
 }

@@ -29,10 +29,12 @@ fn are_same(one: &Request, other: &Request) -> bool {
         ) => query.as_str() == name.as_str() && limit == most,
         (
             Request::Look(Look::Peek { query, limit }),
-            Request::Look(Look::Peek {
-                query: name,
-                limit: most,
-            }),
+            Request::Look(
+                Look::Peek {
+                    query: name,
+                    limit: most,
+                },
+            ),
         ) => query.as_str() == name.as_str() && limit == most,
         (Request::Look(Look::Status), Request::Look(Look::Status))
         | (Request::Drain, Request::Drain)

@@ -5,6 +5,7 @@ use Rattle.std.specs.Prelude.{◌≢◌, ◌↔◌, IfOk, IsTrue, Some, ℤ}
 use Rattle.envelope.specs.Fraction.{Fraction}
 use Rattle.plan.specs.declared.node.NodeKind.{NodeKind}
 use Rattle.reference.specs.Commands.{Command}
+use Rattle.reference.specs.Looks.{Look, Seen, Sees}
 use Rattle.reference.specs.Machine.{Machine, empty, query_named, stream_named}
 use Rattle.reference.specs.World.{Looks, slopes_at}
 use Rattle.reference.specs.declared.fault.Fault.{Fault}
@@ -19,7 +20,7 @@ use Rattle.laws_engine.specs.Promises.{AreCompleteUpto, HasAllWaiting}
 use Rattle.leases.specs.ByQuery.{RunsByQuery}
 use Rattle.leases.specs.Drains.{LeavesOthers, RanOutBelow, RunsTurns, as_drained}
 use Rattle.leases.specs.Openings.{opening_in}
-use Rattle.leases.specs.Looks.{IsPending, WaitsAt, status_in_engine}
+use Rattle.leases.specs.Looks.{IsPending, Shows, WaitsAt, status_in_engine}
 use Rattle.leases.specs.Takes.{Peeks}
 use Rattle.reference.specs.Steps.{AreNext}
 use Rattle.reference.specs.StatusViews.{status_in}
@@ -336,6 +337,12 @@ pub record SeesSlopes {A : Type 0} (view : A → List (NodeKind × Fraction)) (l
     (query : ℕ) (result : Result A Fault) : Type 0 where
   pub legal : IsReplayed l
   pub is : Looks view (slopes_at (world_of (engine_at l)) query) result
+
+-- what a look shows; its query's name is looked up in the same step
+pub record SeesLook (l : PlainLocked) (look : Look) (result : Result Seen Fault) : Type 0 where
+  pub legal : IsReplayed l
+  pub sees : Sees (world_of (engine_at l)) look result
+  pub is : Shows (engine_at l) look result
 
 -- WHAT A SEAT KNOWS of its call: what lay under the lock had a
 -- legal history, and took exactly this command, or refused it

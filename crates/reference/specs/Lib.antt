@@ -6,6 +6,7 @@ pub mod Status
 pub mod StatusViews
 pub mod Replies
 pub mod Steps
+pub mod Looks
 pub mod NewRows
 pub mod Kept
 pub mod CallViews

@@ -3,7 +3,7 @@
 use crate::fixture::{LAST, NOW, columns, declare, fill, rows};
 use crate::stop::Stop;
 use leases::{Engine, Leased};
-use reference::{Answering, Chart, Fault, NewRows};
+use reference::{Answering, Chart, Fault, Look, NewRows, Seen};
 use std::alloc::{AllocError, Global};
 use std::thread::Threads;
 
@@ -26,6 +26,7 @@ pub(crate) fn show_calls<R: Print + Threads + Sync>(rt: &R, alloc: Global) -> Re
     a_peek_takes_nothing(rt, alloc)?;
     answers_are_taken_once_they_are_kept(rt, alloc)?;
     a_status_says_how_far_all_is(rt, alloc)?;
+    a_look_names_its_query(rt, alloc)?;
     a_dropped_query_is_gone(rt, alloc)?;
     a_name_leads_to_a_number(rt, alloc)
 }
@@ -333,6 +334,24 @@ fn a_status_says_how_far_all_is<R: Print>(rt: &R, alloc: Global) -> Result<(), S
     show_status(rt, &engine)?;
     engine.take(0, 1)?;
     show_status(rt, &engine)
+}
+
+/// Shows looks, which name their query: a peek at one answer, and a name that no query has.
+fn a_look_names_its_query<R: Print>(rt: &R, alloc: Global) -> Result<(), Stop> {
+    let mut engine = filled(alloc)?;
+    engine.drain(256)?;
+    for name in ["q", "r"] {
+        let query = String::from_str(alloc, name)?;
+        match engine.look(&Look::Peek { query, limit: 1 }) {
+            Ok(Seen::Answers(answers)) => {
+                let rows = answers.to_rows(alloc)?;
+                println!(rt; "a_look_names_its_query: {name} {rows:?}")?;
+            }
+            Ok(_) => {}
+            Err(fault) => println!(rt; "a_look_names_its_query: {name} {fault}")?,
+        }
+    }
+    Ok(())
 }
 
 /// Prints how far each query and each stream is.

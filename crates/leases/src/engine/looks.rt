@@ -1,7 +1,10 @@
 //! Makes an empty engine, and shows its turns, answers and queues.
 ghost use Rattle.std.specs.Prelude.{◌≡◌, ◌↔◌, IsTrue, length};
+ghost use Rattle.reference.specs.Looks.{NeedsWhole, Sees, look_at, look_of, peek_rows, seen_in};
+ghost use Rattle.reference.specs.Looks.{seen_of, show_plan, show_status};
+ghost use Rattle.reference.specs.World.{Looks};
 ghost use Rattle.laws_engine.specs.Promises.{KeepsItsPromises};
-ghost use Rattle.leases.specs.Looks.{IsPending, WaitsAt};
+ghost use Rattle.leases.specs.Looks.{IsPending, Shows, WaitsAt};
 ghost use Rattle.leases.specs.Shown.{engine_in, world_in};
 ghost use Rattle.leases.specs.Turns.{HasReady};
 ghost use Rattle.leases.specs.Views.{empty_engine};
@@ -10,7 +13,7 @@ ghost use Rattle.reference.specs.World as world;
 
 use crate::engine::Engine;
 use crate::state::EngineState;
-use reference::Fault;
+use reference::{Answering, Fault, Look, Seen};
 use std::alloc::Global;
 
 impl Engine {
@@ -93,5 +96,55 @@ impl Engine {
         ensures { IsPending (λ v. v.items) (engine_in self.now) query result }
     {
         self.state.pending(query)
+    }
+    /// Returns what a look sees.
+    pub(super) fn seen(&self, look: &Look) -> Result<Seen, Fault>
+        ensures looks { (NeedsWhole (look_of look.now) → IsWhole self.now)
+            → Looks seen_of (look_at (world_in self.now) (look_of look.now)) result }
+        ensures sees { Sees (world_in self.now) (look_of look.now) (seen_in result) }
+        ensures shows { Shows (engine_in self.now) (look_of look.now) (seen_in result) }
+    {
+        match look {
+            Look::Peek { query, limit } => self.peek_named(query.as_str(), *limit),
+            Look::Plan { query } => self.slopes_named(query.as_str()),
+            Look::Status => self.status_seen(),
+        }
+    }
+
+    /// Returns what a take of the query with this name would return.
+    fn peek_named(&self, query: &str, limit: i64) -> Result<Seen, Fault>
+        ensures looks { IsWhole self.now
+            → Looks seen_of (look_at (world_in self.now) (peek_rows query.now limit)) result }
+        ensures sees { Sees (world_in self.now) (peek_rows query.now limit) (seen_in result) }
+        ensures shows { Shows (engine_in self.now) (peek_rows query.now limit) (seen_in result) }
+    {
+        match self.query_named(query) {
+            Some(number) => Ok(Seen::Answers(self.peek(number, limit)?)),
+            None => Err(Fault::UnknownQuery),
+        }
+    }
+
+    /// Returns what each operator of the query with this name does, and its slope.
+    fn slopes_named(&self, query: &str) -> Result<Seen, Fault>
+        ensures looks { Looks seen_of (look_at (world_in self.now) (show_plan query.now)) result }
+        ensures shows { Shows (engine_in self.now) (show_plan query.now) (seen_in result) }
+    {
+        match self.query_named(query) {
+            Some(number) => Ok(Seen::Operators(self.slopes(number)?)),
+            None => Err(Fault::UnknownQuery),
+        }
+    }
+
+    /// Returns how far each stream and each undropped query is.
+    fn status_seen(&self) -> Result<Seen, Fault>
+        ensures looks { IsWhole self.now
+            → Looks seen_of (look_at (world_in self.now) show_status) result }
+        ensures sees { Sees (world_in self.now) show_status (seen_in result) }
+        ensures shows { Shows (engine_in self.now) show_status (seen_in result) }
+    {
+        match self.status() {
+            Ok(status) => Ok(Seen::Status(status)),
+            Err(fault) => Err(fault),
+        }
     }
 }

@@ -3,7 +3,6 @@ ghost use Rattle.std.specs.Prelude.{◌≡◌, ◌≤◌, ◌+ℤ◌, IfOk, None
 ghost use Rattle.values.specs.Answers as cql;
 ghost use Rattle.values.specs.declared.TheConstants.{MAX_COLUMNS};
 ghost use Rattle.cql_reader.specs.Views.{query_of};
-ghost use Rattle.cql_reader.specs.WellFormed.{IsWellFormed};
 ghost use Rattle.names.specs.Faults.{first_fault};
 ghost use Rattle.names.specs.Resolved.{resolved, widths};
 ghost use Rattle.reference.specs.Inputs.{IsClosed};
@@ -18,7 +17,7 @@ use values::Row;
 /// Returns the query's answers over the declared streams, as CQL defines them, at the instants
 /// above `base` up to `upto`. They come by instant, and within one instant in order.
 ///
-/// The caller makes sure that the query was read from a text and that its names resolve. `inputs`
+/// The caller makes sure that the query's names resolve. `inputs`
 /// has one list for each source, in the order of From. It holds the rows of the source's stream,
 /// each with its instant, in the order in which they came. `base` and `upto` are -1 or an instant.
 /// If `upto` is not above `base`, there are no answers. The time is that of evaluating the query
@@ -34,7 +33,6 @@ pub fn answers(
     base: i64,
     upto: i64,
 ) -> Result<Vec<(u64, Row)>, AllocError>
-    requires formed { IsWellFormed (query_of query.now) }
     requires accepted { first_fault (query_of query.now) catalog.now ≡ None }
     requires narrow { sum (widths (query_of query.now) catalog.now) ≤ MAX_COLUMNS }
     requires sources { length inputs.now ≡ length query.now.sources.items }

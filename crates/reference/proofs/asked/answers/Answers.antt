@@ -5,7 +5,6 @@ use Rattle.reference.specs.Views.{inputs_of}
 use Rattle.cql_reader.specs.Views.{query_of}
 use Rattle.names.specs.Resolved.{resolved}
 use Rattle.reference.proofs.InputLemmas.{if_ok}
-use Rattle.reference.proofs.SoundLemmas.{all_slides}
 use Rattle.reference.proofs.asked.answers.Goals as goal
 
 pub returns : goal.returns
@@ -18,5 +17,3 @@ returns c =
     ∙ ap (λ (n : ℕ). cql.answers (resolved (query_of c.args.query.now) c.args.catalog.now) (nat_abs (c.args.base +ℤ pos 1)) n inputs) (rw (to_z-of_z w64 c.args.upto c.ranges.upto) at c.first_open-until.ensures))
     c.evaluate.result c.evaluate.ensures
 
-pub evaluate-requires-clause-slides : goal.evaluate-requires-clause-slides
-evaluate-requires-clause-slides c = all_slides c.in-Ok.named.meaning.windows.items (c.in-Ok.ensures.slides c.requires.formed)

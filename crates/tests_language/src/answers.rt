@@ -48,8 +48,7 @@ fn listing_answers(
     until: u64,
     rows: Vec<(u64, Row)>,
     wanted: &[(u64, i64)],
-) -> Result<bool, AllocError>
-{
+) -> Result<bool, AllocError> {
     let mut windows = Vec::new(alloc);
     windows.push(window)?;
     let mut columns = Vec::new(alloc);

@@ -35,8 +35,7 @@ fn answered(
     query: &Query,
     catalog: &Catalog,
     inputs: &[Vec<(u64, Row)>],
-) -> Result<Option<Vec<(u64, Row)>>, AllocError>
-{
+) -> Result<Option<Vec<(u64, Row)>>, AllocError> {
     if !fits_a_row(query, catalog) || query.sources.len() != inputs.len() {
         return Ok(None);
     }
@@ -50,8 +49,7 @@ fn answered(
 }
 
 /// Returns whether these are the answers of a query over S.
-fn answers_are(alloc: Global, query: &Query, wanted: &[(u64, i64)]) -> Result<bool, AllocError>
-{
+fn answers_are(alloc: Global, query: &Query, wanted: &[(u64, i64)]) -> Result<bool, AllocError> {
     let catalog = catalog(alloc)?;
     let inputs = inputs(alloc)?;
     match answered(alloc, query, &catalog, &inputs)? {

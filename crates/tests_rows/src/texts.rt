@@ -73,11 +73,7 @@ fn add_reach(text: &mut String, reach: Reach) -> Result<(), AllocError> {
         Reach::All => text.push_str("[Range Unbounded]"),
         Reach::Last(0) => text.push_str("[Now]"),
         Reach::Last(instants) => write!(text, "[Range {instants}]"),
-        Reach::Steps(instants, step) => write!(
-            text,
-            "[Range {instants} Slide {}]",
-            step.get()
-        ),
+        Reach::Steps(instants, step) => write!(text, "[Range {instants} Slide {}]", step.get()),
     }
 }
 

@@ -118,12 +118,7 @@ fn marks_are_kept(alloc: Global) -> Result<[bool; 4], AllocError> {
     Ok([
         keeps(alloc, &rows, (last(0), 0, 0, 0), &all)?,
         keeps(alloc, &rows, (last(0), 0, 6, 6), &[6, 7, 8, 9])?,
-        keeps(
-            alloc,
-            &rows,
-            (last(2), 0, 0, 6),
-            &[3, 4, 5, 6, 7, 8, 9],
-        )?,
+        keeps(alloc, &rows, (last(2), 0, 0, 6), &[3, 4, 5, 6, 7, 8, 9])?,
         keeps(alloc, &rows, (last(5), 0, 20, 20), &[])?,
     ])
 }
@@ -141,12 +136,7 @@ fn slides_are_kept(alloc: Global) -> Result<[bool; 5], AllocError> {
         )?,
         keeps(alloc, &rows, (slide(1, 4), 0, 9, 10), &[])?,
         keeps(alloc, &rows, (slide(3, 4), 8, 0, 10), &[8, 9])?,
-        keeps(
-            alloc,
-            &rows,
-            (slide(1, 4), 0, 0, 7),
-            &[3, 4, 7, 8, 9],
-        )?,
+        keeps(alloc, &rows, (slide(1, 4), 0, 0, 7), &[3, 4, 7, 8, 9])?,
     ])
 }
 

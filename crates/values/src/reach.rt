@@ -89,7 +89,7 @@ impl Reach {
         match self {
             Reach::All => u64::MAX,
             Reach::Last(_) => start,
-            Reach::Steps(_, step) => next_multiple(*step, start),
+            Reach::Steps(_, step) => next_multiple(step.get(), start),
         }
     }
 
@@ -160,14 +160,15 @@ fn last_multiple(step: Step, at: u64) -> u64
 }
 
 /// Returns an instant below which, from `start` on, no multiple of the step is.
-fn next_multiple(step: Step, start: u64) -> u64
+fn next_multiple(step: u64, start: u64) -> u64
+    requires { 0 < step }
     ensures { (t : ℕ) → start ≤ t → t < result → (t / step * step == t) ≡ false }
 {
-    let last = last_multiple(step, start);
+    let last = start / step * step;
     if last == start {
         return start;
     }
-    last.saturating_add(step.get())
+    last.saturating_add(step)
 }
 
 /// Returns the least instant that a window shows at the multiple after this one. Returns the

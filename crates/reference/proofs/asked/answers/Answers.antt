@@ -16,4 +16,3 @@ returns c =
     ∙ ap (λ (n : ℕ). cql.answers (resolved (query_of c.args.query.now) c.args.catalog.now) n c.first_open-until.result inputs) (rw (to_z-of_z w64 c.args.base c.ranges.base) at c.first_open-first.ensures)
     ∙ ap (λ (n : ℕ). cql.answers (resolved (query_of c.args.query.now) c.args.catalog.now) (nat_abs (c.args.base +ℤ pos 1)) n inputs) (rw (to_z-of_z w64 c.args.upto c.ranges.upto) at c.first_open-until.ensures))
     c.evaluate.result c.evaluate.ensures
-

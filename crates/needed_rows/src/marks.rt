@@ -54,7 +54,8 @@ pub fn mark_needed(
     Ok(())
 }
 
-/// Marks what a window of instants needs: what it shows at the mark or later, and all that is later.
+/// Marks what a window of instants needs: what it shows at the mark or later, and all that comes
+/// later.
 fn mark_reach(rows: &ClosedRows, reader: &Reader, reach: Reach, kept: &mut [bool])
     requires order { AreInOrder rows.now }
     requires marks { length kept.old ≡ length rows.now.instants.now }

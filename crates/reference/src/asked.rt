@@ -17,11 +17,10 @@ use values::Row;
 /// Returns the query's answers over the declared streams, as CQL defines them, at the instants
 /// above `base` up to `upto`. They come by instant, and within one instant in order.
 ///
-/// The caller makes sure that the query's names resolve. `inputs`
-/// has one list for each source, in the order of From. It holds the rows of the source's stream,
-/// each with its instant, in the order in which they came. `base` and `upto` are -1 or an instant.
-/// If `upto` is not above `base`, there are no answers. The time is that of evaluating the query
-/// twice at each instant.
+/// The caller makes sure that the query's names resolve. `inputs` has one list for each source, in
+/// the order of From. It holds the rows of the source's stream, each with its instant, in the order
+/// in which they came. `base` and `upto` are -1 or an instant. If `upto` is not above `base`, there
+/// are no answers. The time is that of evaluating the query twice at each instant.
 ///
 /// # Errors
 /// `AllocError` when out of memory.

@@ -1,5 +1,5 @@
 //! Tests answers of the definition that runs.
-ghost use Rattle.std.specs.Prelude.{◌≡◌, All, length};
+ghost use Rattle.std.specs.Prelude.{◌≡◌, length};
 ghost use Rattle.values.specs.Resolved.{FitsRows};
 
 use reference::evaluate::evaluate;

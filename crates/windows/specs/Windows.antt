@@ -1,6 +1,6 @@
 -- The turns of a window, whatever its kind: it shows rows by their instants, or the last of each
 -- partition.
-use Rattle.std.specs.Prelude.{ℕ, ◌≡◌, ◌<◌, ◌≤◌, List, [], length}
+use Rattle.std.specs.Prelude.{ℕ, ◌≡◌, ◌≤◌, List, [], length}
 use Rattle.values.specs.Row.{Row}
 use Rattle.values.specs.Window as shown
 use Rattle.values.specs.declared.TheConstants.{MAX_COLUMNS}

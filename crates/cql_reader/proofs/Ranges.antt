@@ -44,6 +44,15 @@ unfolding capped
 step_capped (pos n) = above_cut (pos 1) 1099511627777 n (omega arith)
 step_capped (negsuc n) = refl
 
+not_below_one : (n : ℕ) → not (nat_lt n 1) ≡ true → 0 < n
+not_below_one zero h = absurd (false≢true h)
+not_below_one (suc n) h = omega arith
+
+-- a step is at least 1, cut off or not
+pub step_some : (z : ℤ) → in_step z ≡ true → 0 < min (nat_abs z) 2199023255552
+step_some (pos n) h = let l = not_below_one n (and_parts (not (nat_lt n 1)) (nat_lt n 1099511627777) h).0 in omega (arith, l)
+step_some (negsuc n) h = absurd (false≢true h)
+
 pub rows_capped : (z : ℤ) → in_rows (capped z) ≡ in_rows z
 unfolding capped
 rows_capped (pos n) = above_cut (pos 1) 65537 n (omega arith)

@@ -40,10 +40,7 @@ entries_of All = syntax.All
 entries_of (Each es) = syntax.Each (map entry_of es.items)
 
 abbrev pub window_of : WrittenWindow → syntax.WrittenWindow
-window_of windows.Now = syntax.Now
-window_of (windows.Range instants) = syntax.Range instants
-window_of (windows.RangeSlide instants step) = syntax.RangeSlide instants step
-window_of windows.Unbounded = syntax.Unbounded
+window_of (windows.Instants reach) = syntax.Instants reach
 window_of (windows.Rows rows) = syntax.Rows rows
 window_of (windows.Partition by rows) = syntax.Partition (references_of by.items) rows
 

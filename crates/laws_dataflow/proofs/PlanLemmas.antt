@@ -4,7 +4,7 @@ use Rattle.std.proofs.lemmas.Bool.{lt-ltb}
 use Rattle.std.proofs.lemmas.List.{get_or-append-add, length-map}
 use Rattle.std.proofs.lemmas.List.FromFn.{length-map-range_with_len}
 use Rattle.values.specs.Row.{Row, row_cmp}
-use Rattle.values.specs.Window.{Element, Window, Unbounded, window_rows}
+use Rattle.values.specs.Window.{Element, Window, unbounded, window_rows}
 use Rattle.values.specs.Bag.{distinct}
 use Rattle.values.specs.Condition.{SourceColumn, Condition}
 use Rattle.values.specs.Relation.{Shape, Listed, Grouped}
@@ -61,7 +61,7 @@ planned w bags ns count b r few = record {
     value_here k t h = let e : 0 + k ≡ k = omega arith in ap (λ i. get_or (values_of (bags t) [] ns) i []) (sym e) ∙ value-at (bags t) [] ns 0 k (WindowNode 0) refl r h
 
 -- the windows' bags
-pub window_bags : (first t : ℕ) (ws : List Window) (inputs : List (List Element)) → length ws ≡ length inputs → (k : ℕ) → get_or (shown_at first ws t inputs) k [] ≡ window_rows first (get_or ws k Unbounded) t (get_or inputs k [])
+pub window_bags : (first t : ℕ) (ws : List Window) (inputs : List (List Element)) → length ws ≡ length inputs → (k : ℕ) → get_or (shown_at first ws t inputs) k [] ≡ window_rows first (get_or ws k unbounded) t (get_or inputs k [])
 window_bags first t [] [] e k = refl
 window_bags first t [] (es ∷ inputs) e k = absurd (omega (arith, e))
 window_bags first t (w ∷ ws) [] e k = absurd (omega (arith, e))

@@ -3,7 +3,7 @@
 use Rattle.std.specs.Prelude.{◌≡◌, ℕ, suc, ◌-◌, ◌<◌, cond, max, min, List, [], ◌∷◌, ◌++◌, map}
 use Rattle.std.specs.Prelude.{length, get_or}
 use Rattle.values.specs.Row.{Row}
-use Rattle.values.specs.Window.{Element, Window, Unbounded}
+use Rattle.values.specs.Window.{Element, Window, unbounded}
 use Rattle.values.specs.Answers.{Resolved, shown_at}
 use Rattle.plan.specs.Nodes as plan
 use Rattle.plan.specs.Nodes.{Window as WindowNode, Select, Join, Project, Group, Distinct, ToStream}
@@ -58,7 +58,7 @@ abbrev pub world_by : ℕ → List Window → List (List Element) → List ℕ �
 world_by first ws inputs open_at came =
     record {
       first = first;
-      windows = λ k. get_or ws k Unbounded;
+      windows = λ k. get_or ws k unbounded;
       inputs = λ k. get_or inputs k [];
       closed = λ k. max first (get_or open_at k 0);
       came = λ k. get_or came k 0;

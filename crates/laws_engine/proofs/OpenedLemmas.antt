@@ -6,7 +6,7 @@ use Rattle.std.specs.List.{AllByRecursion}
 use Rattle.std.specs.Option.{option_map, option_map_or}
 use Rattle.std.proofs.lemmas.Bool.{eq-eqb}
 use Rattle.values.specs.Row.{Row}
-use Rattle.values.specs.Window.{Element, Window, Unbounded}
+use Rattle.values.specs.Window.{Element, Window, unbounded}
 use Rattle.values.specs.Needs.{is_needed}
 use Rattle.column.specs.declared.batch.Side.{Side}
 use Rattle.column.specs.declared.batch.Side.TheVariants.{Left, Right}
@@ -50,7 +50,7 @@ and_both false b h k = cc
 
 -- WHAT A QUERY NEEDS is kept
 needs_there : (streams : List Stream) (q : Registered) (next s : ℕ) (ws : List Window) (ps : List Place) (k : ℕ) (e : Element) (d : Place) → k < length ps → k < length ws → (get_or ps k d).stream ≡ s
-    → (nat_le (get_or ps k d).arrivals e.arrival && nat_le q.first e.instant) ≡ true → is_needed q.first (get_or ws k Unbounded) next (input_at streams q.first (get_or ps k d)) e ≡ true → needs streams q next s ws ps e ≡ true
+    → (nat_le (get_or ps k d).arrivals e.arrival && nat_le q.first e.instant) ≡ true → is_needed q.first (get_or ws k unbounded) next (input_at streams q.first (get_or ps k d)) e ≡ true → needs streams q next s ws ps e ≡ true
 needs_there streams q next s [] ps k e d l j i c n = absurd (omega (arith, j))
 needs_there streams q next s (w ∷ ws) [] k e d l j i c n = absurd (omega (arith, l))
 needs_there streams q next s (w ∷ ws) (p ∷ ps) zero e d l j i c n = or_left _ _ (and_both (p.stream == s) _ (eq-eqb p.stream s i) (and_both (nat_le p.arrivals e.arrival && nat_le q.first e.instant) _ c n))
@@ -214,7 +214,7 @@ module _ (e : PlainEngine) (g : GoodEngine e) (marks : List (Option ℕ)) (long 
           let windows : length q.meaning.windows ≡ length q.places = is.plan.scoped.sources ∙ length-map q.places (λ (p : Place). columns_of e.machine.streams p.stream) in
           needs_by_there e.machine.streams e.machine.queries marks n q next (place_of q j).stream f r k
           (needs_there e.machine.streams q next (place_of q j).stream q.meaning.windows q.places j f (record { stream = 0; arrivals = 0 }) l (omega (arith, l, windows)) refl c
-          (subst (λ es. is_needed q.first (get_or q.meaning.windows j Unbounded) next es f ≡ true) (input_at_source e.machine q j l) need));
+          (subst (λ es. is_needed q.first (get_or q.meaning.windows j unbounded) next es f ≡ true) (input_at_source e.machine q j l) need));
     }
 
     machine2 : IsMachine (opened e marks).machine

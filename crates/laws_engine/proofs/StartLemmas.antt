@@ -43,8 +43,8 @@ found_query m name text chart f sound accepted is =
     let same : one.found_as ≡ f = ok_same one.found_as f (sym one.is ∙ is) in
     subst (λ z. IsFoundQuery m name z) same (record { query = one.query; fresh = one.fresh })
 
--- what an accepted text means fits its sources, whatever it says: each has a column or more, and they have at most MAX_COLUMNS together; a window slides
--- by one or more, and none has a longer list; the condition needs at most 67 truths at a time; and a row of the query has 1 to MAX_COLUMNS columns
+-- what an accepted text means fits its sources, whatever it says: each has a column or more, and they have at most MAX_COLUMNS together; no window
+-- has a longer list; the condition needs at most 67 truths at a time; and a row of the query has 1 to MAX_COLUMNS columns
 pub texts_fit : (m : Machine) (name text : List ℕ) (chart : Option (List (ℤ × ℤ))) (f : Found) → GoodMachine m → first_fault m (Register name text chart) ≡ None → found m text chart ≡ Ok f
     → IsFit (widths_of m.streams (registered_as m name f)) f.meaning
 texts_fit m name text chart f sound accepted is =

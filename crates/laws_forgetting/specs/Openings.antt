@@ -3,7 +3,8 @@ use Rattle.std.specs.Prelude.{ℕ, ◌≡◌, ◌<◌, ◌≤◌, ◌+◌, ◌�
 use Rattle.std.specs.Prelude.{[], ◌++◌, drop, length, get_or, map, slice_get}
 use Rattle.std.specs.List.{AllByRecursion}
 use Rattle.values.specs.Row.{Row}
-use Rattle.values.specs.Window.{Element, Window, Range, RangeSlide, Unbounded, LastRows, shows}
+use Rattle.values.specs.Reach.{HasStep}
+use Rattle.values.specs.Window.{Element, Window, Instants, LastRows, shows}
 use Rattle.values.specs.Needs.{is_needed}
 use Rattle.reference.specs.Machine.{Machine, Registered, Stream, answers_from, input_at, until_for}
 
@@ -39,11 +40,9 @@ pub record MayOpen (m : Machine) (marks : List (Option ℕ))
   pub numbered : AreNumbered m.streams
 
 -- WHAT A WINDOW NEEDS
--- it moves: a slide does so by one instant or more
+-- its step, if it has one, is one instant or more
 abbrev pub Moves : Window → Type 0
-Moves (Range n) = ⊤
-Moves (RangeSlide n step) = 0 < step
-Moves Unbounded = ⊤
+Moves (Instants r) = HasStep r
 Moves (LastRows columns n) = ⊤
 
 -- the window shows the element at some instant from the mark on,

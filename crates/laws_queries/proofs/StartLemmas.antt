@@ -83,15 +83,13 @@ text_window [] s h = tt
 text_window (w ∷ ws) zero h = h.0
 text_window (w ∷ ws) (suc s) h = text_window ws s h.1
 
-window_is : (ws : List Window) (s : ℕ) → get_or (map window_of ws) s Rattle.values.specs.Window.Unbounded ≡ window_of (window_at ws s)
+window_is : (ws : List Window) (s : ℕ) → get_or (map window_of ws) s Rattle.values.specs.Window.unbounded ≡ window_of (window_at ws s)
 window_is [] s = refl
 window_is (w ∷ ws) zero = refl
 window_is (w ∷ ws) (suc s) = window_is ws s
 
 makeable_window : (w : Window) → IsTextWindow (window_of w) → IsFormed w
-makeable_window (window.Range n) h = tt
-makeable_window (window.RangeSlide n l) h = h
-makeable_window window.Unbounded h = tt
+makeable_window (window.Instants r) h = tt
 makeable_window (window.LastRows columns n) h = h
 
 -- EACH IS MADE
@@ -148,7 +146,7 @@ module _ (windows : List Window) (vs ws : List ℕ) (m : Machine) (q : Registere
       let place : get_or (lengths_of q) s 0 ≡ (place_of q s).arrivals = get_or-map (λ (p : Place). p.arrivals) q.places s (record { stream = 0; arrivals = 0 }) 0 low in
       let reads : made.ReadsSource (place_of q s).arrivals q.first o.left = subst (λ p. made.ReadsSource p q.first o.left) place h.left in
       let b : WindowBegins q.first (get_or vs s 0) (window_at windows s) o.kind o.state = window_begins q.first (get_or vs s 0) (window_at windows s) o.kind o.state h.kind h.state in
-      let is : (world_of m q).windows s ≡ window_of (window_at windows s) = ap (λ l. get_or l s Rattle.values.specs.Window.Unbounded) shows ∙ window_is windows s in
+      let is : (world_of m q).windows s ≡ window_of (window_at windows s) = ap (λ l. get_or l s Rattle.values.specs.Window.unbounded) shows ∙ window_is windows s in
       let empty : length ((world_of m q).inputs s) ≡ 0 = ap length none in
       record {
         runs = record {

@@ -34,10 +34,7 @@ references_of_where (Some c) = references_of_condition c
 
 -- the columns of Partition By
 abbrev pub partition_of : syntax.WrittenWindow → List syntax.Reference
-partition_of syntax.Now = []
-partition_of (syntax.Range instants) = []
-partition_of (syntax.RangeSlide instants step) = []
-partition_of syntax.Unbounded = []
+partition_of (syntax.Instants reach) = []
 partition_of (syntax.Rows rows) = []
 partition_of (syntax.Partition by rows) = by
 

@@ -107,12 +107,7 @@ fn window_of(
         ≡ meaning.window_of (table_of table.now) (syntax.window_of window.now)) }
 {
     match window {
-        cql_reader::WrittenWindow::Now => Ok(Window::Range(0)),
-        cql_reader::WrittenWindow::Range(instants) => Ok(Window::Range(*instants)),
-        cql_reader::WrittenWindow::RangeSlide(instants, step) => {
-            Ok(Window::RangeSlide(*instants, *step))
-        }
-        cql_reader::WrittenWindow::Unbounded => Ok(Window::Unbounded),
+        cql_reader::WrittenWindow::Instants(reach) => Ok(Window::Instants(*reach)),
         cql_reader::WrittenWindow::Rows(rows) => Ok(Window::LastRows(Vec::new(alloc), *rows)),
         cql_reader::WrittenWindow::Partition(by, rows) => Ok(Window::LastRows(
             places_of(alloc, table, by)?,

@@ -4,6 +4,7 @@ use Rattle.std.specs.Prelude.{map, length, get_or}
 use Rattle.std.specs.List.{AllByRecursion}
 use Rattle.values.specs.declared.TheConstants.{MAX_COLUMNS}
 use Rattle.values.specs.Resolved.{condition_of, window_of}
+use Rattle.values.specs.declared.reach.Reach.TheVariants.{All}
 use Rattle.values.specs.declared.resolved.ListItem.{ListItem}
 use Rattle.values.specs.declared.resolved.Window.{Window}
 use Rattle.values.specs.declared.resolved.Window.TheVariants as window
@@ -48,7 +49,7 @@ widths_of vs nodes = widths_from vs [] nodes
 
 -- WHAT IT DOES
 abbrev pub window_at : List Window → ℕ → Window
-window_at ws s = get_or ws s window.Unbounded
+window_at ws s = get_or ws s (window.Instants All)
 
 abbrev pub grouping : List ℕ → List ListItem → GroupBy
 grouping by items = record { by = map column_at by; items = items }

@@ -4,7 +4,6 @@ ghost use Rattle.std.specs.Prelude.{sum};
 ghost use Rattle.values.specs.Answers as cql;
 ghost use Rattle.values.specs.declared.TheConstants.{MAX_COLUMNS};
 ghost use Rattle.cql_reader.specs.Views.{query_of};
-ghost use Rattle.cql_reader.specs.WellFormed.{IsWellFormed};
 ghost use Rattle.names.specs.Faults.{first_fault};
 ghost use Rattle.names.specs.Resolved.{resolved, widths};
 ghost use Rattle.names.specs.Told.{Told};
@@ -20,10 +19,10 @@ use values::Row;
 /// Returns the query's answers over the declared streams, as CQL defines them, at the instants
 /// above `base` up to `upto`. They come by instant, and within one instant in order.
 ///
-/// The caller makes sure that the query was read from a text. `inputs` has one list for each
-/// source, in the order of From. It holds the rows of the source's stream, each with its instant,
-/// in the order in which they came. `base` and `upto` are -1 or an instant. If `upto` is not above
-/// `base`, there are no answers. The time is that of evaluating the query twice at each instant.
+/// `inputs` has one list for each source, in the order of From. It holds the rows of the source's
+/// stream, each with its instant, in the order in which they came. `base` and `upto` are -1 or an
+/// instant. If `upto` is not above `base`, there are no answers. The time is that of evaluating the
+/// query twice at each instant.
 ///
 /// # Errors
 /// The first fault of the query's names, as `resolve` has it. `OutOfMemory` when out of memory,
@@ -36,7 +35,6 @@ pub fn answers(
     base: i64,
     upto: i64,
 ) -> Result<Vec<(u64, Row)>, ResolveError>
-    requires formed { IsWellFormed (query_of query.now) }
     requires narrow { sum (widths (query_of query.now) catalog.now) ≤ MAX_COLUMNS }
     requires sources { length inputs.now ≡ length query.now.sources.items }
     requires base { IsClosed base }

@@ -1,6 +1,4 @@
 //! Tests answers of a text.
-ghost use Rattle.cql_reader.specs.Views.{query_of};
-ghost use Rattle.cql_reader.specs.WellFormed.{IsWellFormed};
 
 use crate::answers::{are, row};
 use cql_reader::{Name, Query, every_query_is_well_formed, every_text_has_one_answer, read};
@@ -37,9 +35,7 @@ fn answered(
     query: &Query,
     catalog: &Catalog,
     inputs: &[Vec<(u64, Row)>],
-) -> Result<Option<Vec<(u64, Row)>>, AllocError>
-    requires { IsWellFormed (query_of query.now) }
-{
+) -> Result<Option<Vec<(u64, Row)>>, AllocError> {
     if !fits_a_row(query, catalog) || query.sources.len() != inputs.len() {
         return Ok(None);
     }
@@ -51,9 +47,7 @@ fn answered(
 }
 
 /// Returns whether these are the answers of a query over S.
-fn answers_are(alloc: Global, query: &Query, wanted: &[(u64, i64)]) -> Result<bool, AllocError>
-    requires { IsWellFormed (query_of query.now) }
-{
+fn answers_are(alloc: Global, query: &Query, wanted: &[(u64, i64)]) -> Result<bool, AllocError> {
     let catalog = catalog(alloc)?;
     let inputs = inputs(alloc)?;
     match answered(alloc, query, &catalog, &inputs)? {

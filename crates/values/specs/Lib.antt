@@ -5,6 +5,7 @@ pub mod Row
 pub mod Bag
 pub mod Perm
 pub mod Signed
+pub mod Reach
 pub mod Window
 pub mod Condition
 pub mod Relation

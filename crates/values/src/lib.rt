@@ -17,9 +17,12 @@ ghost use Rattle.std.specs.Ordering.{int_cmp, int_eq, as_partial_cmp};
 ghost use Rattle.values.specs.Row.{row_cmp, same_row, value_at};
 ghost use Rattle.values.specs.Value.{IsStreamNumber, IsAnswerNumber, clamp_answer};
 
+mod reach;
 mod resolved;
+mod step;
 
 use arrayvec::ArrayVec;
+pub use reach::{NeededInstants, Reach};
 pub use resolved::{
     Aggregate, Compare, Condition, ListItem, Operand, Resolved, Shape, SourceColumn,
     StreamOperator, Window,
@@ -27,6 +30,7 @@ pub use resolved::{
 use std::cmp::Ordering;
 use std::fmt;
 use std::marker::Model;
+pub use step::Step;
 
 /// Is the greatest number of a stream or a condition; its opposite is the least.
 pub const STREAM_MAX: i64 = 1_099_511_627_775;

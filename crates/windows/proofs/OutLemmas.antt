@@ -15,7 +15,7 @@ use Rattle.windows.specs.Instants as instants
 use Rattle.windows.specs.Instants.{InstantState, entering, is_past, leaving, near_at, no_rows, signed}
 use Rattle.windows.specs.Latest as latest
 use Rattle.windows.specs.Laws.{AreShown, AreUpTo, InstantsStand, LatestStands, Stands, is_of, rows_in_order, shown_by}
-use Rattle.windows.specs.Reach.{at_once, moves}
+use Rattle.values.specs.Reach.{at_once, moves}
 use Rattle.windows.specs.Windows.{IsAfter, WindowState, near, out}
 use Rattle.windows.specs.declared.window.Holding.TheVariants.{Instants, Latest}
 use Rattle.windows.proofs.InstantsLaw.{length_plain, rows_of_tick}

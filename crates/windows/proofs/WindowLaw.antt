@@ -1,5 +1,6 @@
 -- The laws of a window, whatever its kind.
 use Rattle.std.proofs.Common.{◌≡◌, ℕ, ◌+◌, ◌-◌, ◌<◌, ◌≤◌, Bool, true, false, cond, not, List, [], ◌∷◌, ◌++◌, filter, take, refl, ap, ap₂, sym, ◌∙◌, subst, subst₂, arith}
+use Rattle.values.specs.Reach as reach
 use Rattle.values.specs.Row.{Row}
 use Rattle.values.specs.Window.{Element, LastRows, Window, shows}
 use Rattle.op_queue.specs.Items.{item_instant}
@@ -11,7 +12,6 @@ use Rattle.windows.specs.Instants.{InstantState}
 use Rattle.windows.specs.Latest as latest
 use Rattle.windows.specs.Latest.{LatestState, held_in}
 use Rattle.windows.specs.Laws.{AreShown, Each, InstantsStand, IsPart, IsRising, LatestStands, PassesTicks, Stands, TakesRows, TakesTick, WindowRows, WindowTick, coming, rows_in_order, shown_by, shown_of}
-use Rattle.windows.specs.Reach as reach
 use Rattle.windows.specs.Widths.{IsItemWide}
 use Rattle.windows.specs.Windows.{Begins, IsAfter, IsEmpty, IsNext, MayTake, Stays, WindowState, near, out, width_of, window_of}
 use Rattle.windows.specs.declared.window.Holding.TheVariants.{Instants, Latest}

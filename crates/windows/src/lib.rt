@@ -14,7 +14,6 @@ mod latest;
 mod laws;
 mod outputs;
 mod parts;
-mod reach;
 mod row_table;
 mod runs;
 mod window;

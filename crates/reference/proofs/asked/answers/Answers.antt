@@ -4,7 +4,6 @@ use Rattle.values.specs.Answers as cql
 use Rattle.reference.specs.Views.{inputs_of}
 use Rattle.cql_reader.specs.Views.{query_of}
 use Rattle.names.specs.Resolved.{resolved}
-use Rattle.reference.proofs.SoundLemmas.{all_slides}
 use Rattle.reference.proofs.asked.answers.Goals as goal
 
 pub returns-clause-answers : goal.returns-clause-answers
@@ -14,6 +13,3 @@ returns-clause-answers c =
     ∙ ap (λ r. cql.answers r c.first_open-first.result c.first_open-until.result inputs) c.in_ok-named.ensures.meaning
     ∙ ap (λ (n : ℕ). cql.answers (resolved (query_of c.args.query.now) c.args.catalog.now) n c.first_open-until.result inputs) (rw (to_z-of_z w64 c.args.base c.ranges.base) at c.first_open-first.ensures)
     ∙ ap (λ (n : ℕ). cql.answers (resolved (query_of c.args.query.now) c.args.catalog.now) (nat_abs (c.args.base +ℤ pos 1)) n inputs) (rw (to_z-of_z w64 c.args.upto c.ranges.upto) at c.first_open-until.ensures)
-
-pub evaluate-requires-clause-slides : goal.evaluate-requires-clause-slides
-evaluate-requires-clause-slides c = all_slides c.in_ok-named.named.meaning.windows.items (c.in_ok-named.ensures.slides c.requires.formed)

@@ -1,5 +1,6 @@
 -- A query that is drained by itself.
-use Rattle.std.specs.Prelude.{ℕ, ◌≡◌, ◌<◌, ◌≤◌, ◌||◌, Bool, true, false, Some, List, [], ◌∷◌, length}
+use Rattle.std.specs.Prelude.{ℕ, ◌≡◌, ◌<◌, ◌≤◌, ◌||◌, Bool, true, false, Some, List, [], ◌∷◌}
+use Rattle.std.specs.Prelude.{length}
 use Rattle.column.specs.declared.batch.Side.{Side}
 use Rattle.operators.specs.Operators.{ready}
 use Rattle.operators.specs.Runs.{Stops}

@@ -1,17 +1,20 @@
 """What the options of the programs mean, as a user meets them."""
 
 import ctypes
+import itertools
+import json
 import os
 import socket
 import subprocess
+import tempfile
 import unittest
 from collections.abc import Iterator
-from contextlib import contextmanager
+from contextlib import contextmanager, suppress
 from pathlib import Path
 
 from cqld.programs import find_program
 
-from support import PATIENCE, wait_until
+from support import PATIENCE, ROOT, wait_until
 
 
 # Declares S(a), and a query that answers with each row once its instant has closed.
@@ -31,6 +34,8 @@ MANY_CALLS = [SETUP] + [EMPTY_APPEND * 100] * (CALLS // 100)
 LISTEN = "0A"  # the state of a socket in /proc/net/tcp
 LOOPBACK = "0100007F"  # 127.0.0.1 there
 PIDFD_GETFD = 438  # the number of the call that copies a file of another process
+
+REFUSED = "refused\n"  # what a malloc says on standard error that refused a growth
 
 
 def said(
@@ -180,6 +185,40 @@ def most_memory_of_a_server(parts: list[str], *words: str) -> int:
                 for _ in range(part.count("\n")):
                     replies.readline()
         return most_memory(server.pid)
+
+
+def refusing(folder: str) -> Path:
+    """Makes a malloc in this folder that is loaded before a program, and refuses one growth."""
+    library = Path(folder, "refuse.so")
+    source = ROOT / "bench/refusals_source/refuse.c"
+    words = ["cc", "-shared", "-fPIC", "-O1", "-o", str(library), str(source)]
+    subprocess.run(words, check=True, timeout=PATIENCE)
+    return library
+
+
+def said_without(library: Path, growth: int, lines: str) -> tuple[list[str], bool]:
+    """Returns what one connection is answered to these lines, and whether a growth was refused.
+
+    The growth has this number, counted from 1, among all of the server and its threads. There are
+    fewer replies than lines, or none, if the server or the connection could not start without it.
+    """
+    command = [find_program("cqld"), "--port=0", "--workers=1", "--clients=1", "--serve=1"]
+    growths = {**os.environ, "LD_PRELOAD": str(library), "REFUSE_AT": str(growth)}
+    pipe = subprocess.PIPE
+    with subprocess.Popen(command, env=growths, stdout=pipe, stderr=pipe, text=True) as server:
+        try:
+            assert server.stdout is not None
+            opened, said = server.stdout.readline(), b""
+            if opened:
+                with suppress(OSError):  # of a server that ends meanwhile
+                    with connected(int(opened.rsplit(":", 1)[1])) as client:
+                        client.sendall(lines.encode())
+                        client.shutdown(socket.SHUT_WR)
+                        said = rest_of(client)
+            _, errors = server.communicate(timeout=PATIENCE)
+        finally:
+            server.kill()
+    return said.decode().splitlines(), REFUSED in errors
 
 
 class Programs(unittest.TestCase):
@@ -400,6 +439,22 @@ class Programs(unittest.TestCase):
                         return b"[0,5]" in taken.readline()
 
                     wait_until(is_there)  # nobody asks for a drain
+
+    def test_a_drain_goes_on_after_memory_ran_out_once(self) -> None:
+        lines = script(3)
+        asked = [json.loads(line)["op"] for line in lines.splitlines()]
+        refused = 0
+        with tempfile.TemporaryDirectory() as folder:
+            library = refusing(folder)
+            for growth in itertools.count(1):
+                said, was_refused = said_without(library, growth, lines)
+                if not was_refused:
+                    break
+                wanting = [op for op, reply in zip(asked, said) if "E20" in reply]
+                refused += len(wanting)
+                self.assertNotIn("drain", wanting, f"growth {growth}")
+        self.assertEqual("".join(f"{reply}\n" for reply in said), replies(3))
+        self.assertGreater(refused, 0)  # of other calls
 
     def test_workers_outlive_the_first_connection(self) -> None:
         setup = (

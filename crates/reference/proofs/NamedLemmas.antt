@@ -138,6 +138,16 @@ named_at [] n d h = absurd (cc)
 named_at (q ∷ qs) zero d h = named_front q.is_dropped (query_of q) h
 named_at (q ∷ qs) (suc n) d h = named_at qs n d h
 
+-- and it was not dropped
+live_front : (b : Bool) (r : Registered) → of_query [] (cond b None (Some r)) ≡ None → b ≡ false
+live_front true r h = absurd (cc)
+live_front false r h = refl
+
+pub live_at : (qs : List StandingQuery) (n : ℕ) (d : StandingQuery) → of_query [] (option_and_then unless_dropped (slice_get (map query_of qs) n)) ≡ None → (query_of (get_or qs n d)).is_dropped ≡ false
+live_at [] n d h = absurd (cc)
+live_at (q ∷ qs) zero d h = live_front q.is_dropped (query_of q) h
+live_at (q ∷ qs) (suc n) d h = live_at qs n d h
+
 -- an item that keeps its name
 pub name_stays : (q old : StandingQuery) → query_of q ≡ query_of old → query_name q ≡ query_name old
 name_stays q old h = ap name_of_registered h

@@ -1,4 +1,5 @@
--- A registered query of the code as one of the machine.
+-- A registered query of the code as one of the machine. What a dropped one was is known to the
+-- proof alone.
 use Rattle.std.specs.Prelude.{ℕ, List, [], map, string_bytes}
 use Rattle.values.specs.Row.{Row}
 use Rattle.reference.specs.Views.{pairs_of}
@@ -12,11 +13,11 @@ use Rattle.plan.specs.declared.operators.Plan.{Plan}
 
 abbrev pub query_of : StandingQuery → machine.Registered
 query_of q = record {
-  name = string_bytes q.name;
-  meaning = resolved_of q.plan.meaning;
-  nodes = nodes_of q.plan.nodes.items;
-  measures = q.plan.measures.items;
-  places = map place_of q.places.items;
+  name = string_bytes q.known.value.name;
+  meaning = resolved_of q.known.value.plan.meaning;
+  nodes = nodes_of q.known.value.plan.nodes.items;
+  measures = q.known.value.plan.measures.items;
+  places = map place_of q.known.value.places.items;
   first = q.first;
   start = q.first;
   earlier = [];

@@ -206,7 +206,7 @@ impl Plain {
             ≡ change query (λ end. 0) (world_of self.old).upto }
     {
         self.query_names.free(self.queries[query as usize].name());
-        self.queries[query as usize].drop_out();
+        self.queries[query as usize].drop_out(self.alloc);
     }
 }
 

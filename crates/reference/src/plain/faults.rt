@@ -1,5 +1,6 @@
 //! Finds the first test that a call fails.
-ghost use Rattle.std.specs.Prelude.{◌≡◌, ◌∷◌, [], IfSome, MatchOption, None, Some, map, slice_get};
+ghost use Rattle.std.specs.Prelude.{◌≡◌, ◌∷◌, [], IfSome, MatchOption, None, Some, false, map};
+ghost use Rattle.std.specs.Prelude.{slice_get};
 ghost use Rattle.std.specs.List.{list_any};
 ghost use Rattle.reference.specs.Commands as commands;
 ghost use Rattle.reference.specs.Commands.{first_fault, register_tests, rows_tests};
@@ -99,8 +100,9 @@ impl Plain {
 
     /// Returns the query of a number, if it was not dropped.
     pub(crate) fn query_at(&self, number: u64) -> Option<&StandingQuery>
-        ensures { MatchOption result (query_at (machine_in self.now) number ≡ None)
+        ensures found { MatchOption result (query_at (machine_in self.now) number ≡ None)
             (λ q. query_at (machine_in self.now) number ≡ Some (query_of q.now)) }
+        ensures live { IfSome result (λ q. (query_of q.now).is_dropped ≡ false) }
     {
         match self.queries.get(number as usize) {
             Some(query) if !query.is_dropped() => Some(query),

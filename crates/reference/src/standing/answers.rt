@@ -1,5 +1,5 @@
 //! Finds the answers of a registered query.
-ghost use Rattle.std.specs.Prelude.{◌≡◌, ◌≤◌, ◌<◌, ◌+◌, ◌^◌, IfOk, OnOk, drop, true};
+ghost use Rattle.std.specs.Prelude.{◌≡◌, ◌≤◌, ◌<◌, ◌+◌, ◌^◌, IfOk, OnOk, drop, false, true};
 ghost use Rattle.reference.specs.Inputs.{are_signed};
 ghost use Rattle.std.specs.VecDeque.{deque_len};
 ghost use Rattle.reference.specs.Machine.{closed_answers, ends_at};
@@ -24,13 +24,15 @@ impl StandingQuery {
         alloc: Global,
         streams: &[Stream],
     ) -> Result<Vec<(u64, Row)>, AllocError>
+        requires { (query_of self.now).is_dropped ≡ false }
         ensures answers { IfOk result (λ v. timed_of v.items
             ≡ closed_answers (machine_of streams.now) (query_of self.now)) }
         ensures instants { IfOk result (λ v. are_signed (pairs_of v.items) ≡ true) }
     {
-        let inputs = inputs_at(alloc, streams, self.first, &self.places)?;
-        let until = until_for(streams, &self.places);
-        evaluate(alloc, &self.plan.meaning, self.first, until, &inputs)
+        let details = self.details();
+        let inputs = inputs_at(alloc, streams, self.first, &details.places)?;
+        let until = until_for(streams, &details.places);
+        evaluate(alloc, &details.plan.meaning, self.first, until, &inputs)
     }
 
     /// Returns its closed answers that were not yet taken.
@@ -71,7 +73,7 @@ impl StandingQuery {
         if self.is_dropped {
             return 0;
         }
-        self.first.max(until_for(streams, &self.places))
+        self.first.max(until_for(streams, &self.details().places))
     }
 
     /// Makes the fresh answers wait, in place of those that waited. They are all that are closed

@@ -1,6 +1,6 @@
 //! Makes and changes a registered query.
 ghost use Rattle.std.specs.Prelude.{◌≡◌, ◌≤◌, ◌<◌, ◌+◌, ◌++◌, [], IfOk, OnOk, OnErr, length};
-ghost use Rattle.std.specs.Prelude.{min, take, drop, vec_len, vec_capacity, string_bytes, true};
+ghost use Rattle.std.specs.Prelude.{false, min, take, drop, vec_len, vec_capacity, string_bytes, true};
 ghost use Rattle.reference.specs.Inputs.{are_signed};
 ghost use Rattle.std.specs.VecDeque.{deque_len};
 ghost use Rattle.reference.specs.Commands as commands;
@@ -14,12 +14,13 @@ ghost use Rattle.reference.specs.Views.{pairs_of};
 
 use crate::limits::rows_of_each;
 use crate::place::{first_instant, has_past, opens_of, places_of};
-use crate::standing::StandingQuery;
+use crate::standing::{Details, StandingQuery};
 use crate::stream::Stream;
 use answer_rows::AnswerRows;
 use plan::Plan;
 use std::alloc::{AllocError, Global};
 use std::collections::VecDeque;
+use std::snapshot::Snapshot;
 use values::Row;
 
 impl StandingQuery {
@@ -41,10 +42,11 @@ impl StandingQuery {
         let places = places_of(alloc, streams, &plan.streams)?;
         let opens = opens_of(alloc, streams, &places)?;
         let first = first_instant(&opens);
+        let details = Details { name, plan, places };
+        let known = Snapshot::of(&details);
         Ok(StandingQuery {
-            name,
-            plan,
-            places,
+            details: Some(Box::new(alloc, details)?),
+            known,
             first,
             taken: 0,
             upto: first,
@@ -56,9 +58,10 @@ impl StandingQuery {
 
     /// Returns its name.
     pub(crate) fn name(&self) -> &str
+        requires { (query_of self.now).is_dropped ≡ false }
         ensures { result.now ≡ (query_of self.now).name }
     {
-        self.name.as_str()
+        self.details().name.as_str()
     }
 
     /// Returns whether it was dropped.
@@ -74,15 +77,14 @@ impl StandingQuery {
     pub(crate) fn is_crowded(&self, stream: u64, arrivals: u64) -> bool
         ensures { result ≡ is_crowded stream arrivals (query_of self.now) }
     {
-        if self.is_dropped || self.places.len() <= 2 {
+        if self.is_dropped {
             return false;
         }
-        has_past(
-            &self.places,
-            stream,
-            arrivals,
-            rows_of_each(self.places.len()),
-        )
+        let places = &self.details().places;
+        if places.len() <= 2 {
+            return false;
+        }
+        has_past(places, stream, arrivals, rows_of_each(places.len()))
     }
 
     /// Returns the first answers that wait, at most `limit`, which no longer wait.
@@ -139,15 +141,17 @@ impl StandingQuery {
         Ok(rows)
     }
 
-    /// Drops it, and what waits at it. Takes no memory.
-    pub(crate) fn drop_out(&mut self)
+    /// Drops it, and what waits at it. Takes no memory, and gives back all but its numbers.
+    pub(crate) fn drop_out(&mut self, alloc: Global)
         ensures query { query_of self.new ≡ commands.dropped (query_of self.old) }
         ensures waiting { waiting_of self.new ≡ [] }
         ensures upto { upto_of self.new ≡ 0 }
     {
         self.is_dropped = true;
         self.upto = 0;
-        self.waiting.clear();
+        self.details = None;
+        self.waiting = VecDeque::new(alloc);
+        self.fresh = VecDeque::new(alloc);
     }
 }
 

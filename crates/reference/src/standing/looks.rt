@@ -32,10 +32,11 @@ impl StandingQuery {
     /// # Errors
     /// `AllocError` when out of memory.
     pub(crate) fn status(&self, alloc: Global) -> Result<QueryStatus, AllocError>
+        requires { (query_of self.now).is_dropped ≡ false }
         ensures { IfOk result (λ s. query_status_in s
             ≡ query_status (query_of self.now) (waiting_of self.now) (upto_of self.now) false) }
     {
-        let name = String::from_str(alloc, self.name.as_str())?;
+        let name = String::from_str(alloc, self.name())?;
         Ok(QueryStatus {
             name,
             base: last_before(self.first),

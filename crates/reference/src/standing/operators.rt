@@ -1,5 +1,5 @@
 //! Reads the operators of a registered query.
-ghost use Rattle.std.specs.Prelude.{◌≡◌, IfOk, map};
+ghost use Rattle.std.specs.Prelude.{◌≡◌, IfOk, false, map};
 ghost use Rattle.std.specs.List.{zip};
 ghost use Rattle.plan.specs.Kinds.{kind_of};
 ghost use Rattle.plan.specs.Views.{nodes_of};
@@ -15,10 +15,12 @@ impl StandingQuery {
     /// Returns what each of its operators does, and its slope.
     #[tactic(auto, unfolding(crate::specs::World::operators_of))]
     pub(crate) fn operators(&self, alloc: Global) -> Result<Vec<(NodeKind, Slope)>, AllocError>
+        requires { (query_of self.now).is_dropped ≡ false }
         ensures { IfOk result (λ v. v.items ≡ operators_of (query_of self.now)) }
     {
-        let slopes = slopes(alloc, &self.plan)?;
-        paired(alloc, &self.plan.nodes, &slopes)
+        let plan = &self.details().plan;
+        let slopes = slopes(alloc, plan)?;
+        paired(alloc, &plan.nodes, &slopes)
     }
 }
 

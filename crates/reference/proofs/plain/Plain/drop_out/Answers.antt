@@ -7,9 +7,13 @@ use Rattle.reference.proofs.StepLemmas.{set-change, query_in}
 use Rattle.std.proofs.Common.{Some, None, Option, slice_get}
 use Rattle.std.proofs.lemmas.List.{map-set}
 use Rattle.reference.specs.Named.{name_of_registered, query_name}
-use Rattle.reference.proofs.NamedLemmas.{named_at}
+use Rattle.reference.proofs.NamedLemmas.{live_at, named_at}
 use Rattle.reference.proofs.WaitingLemmas.{IsNext, set_wait, wait_all, wait_each}
 use Rattle.reference.proofs.plain.Plain.drop_out.Goals as goal
+
+pub name-requires : goal.name-requires
+name-requires c =
+    ap (λ (q : StandingQuery). (query_of q).is_dropped) c.index.ensures ∙ live_at c.args.self.now.queries.items c.args.query c.index.result.now c.requires
 
 pub returns-clause-machine : goal.returns-clause-machine
 returns-clause-machine c =

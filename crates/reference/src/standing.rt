@@ -1,6 +1,7 @@
 //! Keeps a registered query and the answers that wait at it.
-ghost use Rattle.std.specs.Prelude.{◌≡◌, ◌≤◌, ◌<◌, ◌+◌, ◌^◌, MatchOption, box_value, false};
+ghost use Rattle.std.specs.Prelude.{◌≡◌, ◌≤◌, ◌<◌, ◌+◌, ◌^◌, Some, box_value, false};
 ghost use Rattle.std.specs.Prelude.{length, true};
+ghost use Rattle.std.specs.Option.{option_map};
 ghost use Rattle.std.specs.VecDeque.{deque_len};
 ghost use Rattle.names.specs.Sound.{has_narrow_rows, all_slide};
 ghost use Rattle.reference.specs.Views.{pairs_of};
@@ -55,7 +56,7 @@ pub(crate) struct StandingQuery {
     /// Holds the answers that a running drain has found. They replace those that wait once the
     /// drain has found the answers of every query.
     fresh: VecDeque<(u64, Row)>,
-    ghost kept: { MatchOption details (is_dropped ≡ true) (λ d. box_value d ≡ known.value) },
+    ghost kept: { is_dropped ≡ false → option_map box_value details ≡ Some known.value },
     ghost begins: { first ≤ 1099511627777 },
     ghost reaches: { upto ≤ 1099511627777 },
     ghost counts: { taken + deque_len waiting < 2 ^ 64 },

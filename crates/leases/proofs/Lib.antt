@@ -46,7 +46,7 @@ mod AlikeLemmas
 mod LogLemmas
 mod CompactedLemmas
 mod CopiedLemmas
-mod BareLemmas
+mod RestartedLemmas
 mod KeptLemmas
 mod ReadLemmas
 mod MarkLemmas

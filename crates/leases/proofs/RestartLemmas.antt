@@ -113,21 +113,3 @@ module _ (old : List Registration) (ks : List Remains) (marks : AreMarkable old 
       let long : length (map query_of old) ≡ length old = length-map old query_of in
       let last : i ≡ length (map query_of old) = omega (arith, h.within, all, marks.0, long) in
       h.first ∙ ap (restarted_first (map query_of old) ms ws) last ∙ restarted_all (map query_of old) ms ws
-
--- as many answers wait as there are queries
-pub as_many : (qs : List Registration) (ks : List Remains) → AreMarkable qs ks → length (earlier_in ks) ≡ length qs
-as_many qs ks h = length-map (map remains_of ks) answers_in ∙ length-map ks remains_of ∙ h.0
-
--- what waits comes first behind that
-earlier_is : (qs : List Registered) (ks : List PlainRemains) (ws : List (List (ℕ × Row))) → length ks ≡ length qs → length ws ≡ length qs → map (λ q. q.earlier) (all_restarted qs (marks_by qs ks) ws) ≡ ws
-earlier_is [] [] [] l m = refl
-earlier_is [] ks (w ∷ ws) l m = absurd (omega (arith, m))
-earlier_is [] (k ∷ ks) [] l m = absurd (omega (arith, l))
-earlier_is (q ∷ qs) [] ws l m = absurd (omega (arith, l))
-earlier_is (q ∷ qs) (k ∷ ks) [] l m = absurd (omega (arith, m))
-earlier_is (q ∷ qs) (k ∷ ks) (w ∷ ws) l m = ap (λ z. w ∷ z) (earlier_is qs ks ws (omega (arith, l)) (omega (arith, m)))
-
-pub restarted_earlier : (qs : List Registration) (ks : List Remains) → AreMarkable qs ks → map (λ q. q.earlier) (restarted_by qs ks (earlier_in ks)) ≡ earlier_in ks
-restarted_earlier qs ks h =
-    let many : length (map query_of qs) ≡ length qs = length-map qs query_of in
-    earlier_is (map query_of qs) (map remains_of ks) (earlier_in ks) (length-map ks remains_of ∙ h.0 ∙ sym many) (as_many qs ks h ∙ sym many)

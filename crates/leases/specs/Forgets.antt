@@ -89,7 +89,3 @@ abbrev pub restarted_by : List Registration → List Remains → List (List (ℕ
 restarted_by registered remains waiting =
     all_restarted (map query_of registered)
     (marks_by (map query_of registered) (map remains_of remains)) waiting
-
--- a query before any answer that waited
-abbrev pub without_earlier : Registered → Registered
-without_earlier q = record q { earlier = [] }

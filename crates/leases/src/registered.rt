@@ -30,7 +30,6 @@ pub(crate) struct Registration {
     /// Holds its name.
     pub(crate) name: String,
     /// Holds its plan: the operators by number, with the chart that was given or the default one.
-    /// Openings share it.
     pub(crate) plan: Arc<Plan>,
     /// Holds the slope of each operator, by number.
     pub(crate) slopes: Vec<Slope>,

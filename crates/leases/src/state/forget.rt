@@ -133,7 +133,7 @@ impl EngineState {
 }
 
 /// Returns the instant after the query's mark, or `None` if it does not run.
-fn next_of(query: &Registration, remains: &Remains) -> Option<u64>
+pub(super) fn next_of(query: &Registration, remains: &Remains) -> Option<u64>
     requires { IsMarkable (query_of query.now) (remains_of remains.now) }
     ensures { result ≡ mark_in (query_of query.now) (remains_of remains.now) }
 {
@@ -300,7 +300,7 @@ fn keep_rows(streams: &mut Streams, kept: &[KeptRows])
 
 /// Makes each query go on from the instant after its mark; what it answers then follows the waiting
 /// answers. Takes no memory.
-pub(crate) fn restart(registered: &mut [Registration], remains: &[Remains])
+fn restart(registered: &mut [Registration], remains: &[Remains])
     requires { AreMarkable registered.old remains.now }
     ensures { map query_of registered.new
         ≡ restarted_by registered.old remains.now (earlier_in remains.now) }

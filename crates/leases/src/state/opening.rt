@@ -1,31 +1,30 @@
 //! Copies what a forgetting leaves.
 ghost use Rattle.std.specs.Prelude.{◌≡◌, ℕ, Bool, IfOk, map};
 ghost use Rattle.values.specs.Window.{Element};
-ghost use Rattle.reference.specs.Opening.{with_kept};
-ghost use Rattle.laws_engine.specs.Openings.{forgotten};
-ghost use Rattle.leases.specs.Forgets.{AreMarkable, IsSaid, Says, earlier_in, restarted_by};
-ghost use Rattle.leases.specs.Forgets.{without_earlier};
-ghost use Rattle.leases.specs.Openings.{opening_in};
+ghost use Rattle.reference.specs.Opening.{restart, with_kept};
+ghost use Rattle.laws_engine.specs.Engines.{answers_in};
+ghost use Rattle.laws_engine.specs.Openings.{forgotten, mark_in};
+ghost use Rattle.leases.specs.Forgets.{AreMarkable, IsMarkable, IsSaid, Says, earlier_in};
+ghost use Rattle.leases.specs.Forgets.{restarted_by};
+ghost use Rattle.leases.specs.Openings.{opening_in, restarted_of};
 ghost use Rattle.leases.specs.Shown.{engine_in};
 ghost use Rattle.leases.specs.Sound.{IsSound};
-ghost use Rattle.leases.specs.Views.{query_of};
+ghost use Rattle.leases.specs.Views.{query_of, remains_of};
 
-use crate::opening::Opening;
-use crate::pace::Pace;
-use crate::registered::{Registration, SourcePlace};
+use crate::limits::ALL_INSTANTS;
+use crate::opening::{Opening, Restarted};
+use crate::registered::Registration;
 use crate::remains::Remains;
 use crate::state::EngineState;
-use crate::state::forget::{KeptRows, restart};
-use envelope::Slope;
-use query_runtime::WaitingAnswers;
+use crate::state::forget::{KeptRows, next_of};
 use std::alloc::{AllocError, Global};
 use std::snapshot::Snapshot;
-use std::sync::Arc;
 use stream_store::{Stored, Streams};
 
 impl EngineState {
     /// Copies what `forget` would leave of streams and queries. It costs the rows that are held
-    /// times the windows over their streams, plus the waiting answers, plus the queries.
+    /// times the windows over their streams, plus the waiting answers, plus the queries. Of a query
+    /// it copies only the waiting answers.
     ///
     /// # Errors
     /// `AllocError` when out of memory.
@@ -35,9 +34,8 @@ impl EngineState {
     {
         let kept = self.kept_rows()?;
         let streams = copies_of(self.alloc, &self.streams, &kept)?;
-        let waiting = waiting_of(self.alloc, &self.remains)?;
-        let registered = restarted_copies(self.alloc, &self.registered, &self.remains)?;
-        Ok(Opening::of(streams, registered, waiting))
+        let queries = restarted_queries(self.alloc, &self.registered, &self.remains)?;
+        Ok(Opening::of(streams, queries))
     }
 }
 
@@ -54,81 +52,40 @@ fn copies_of(alloc: Global, streams: &Streams, kept: &[KeptRows]) -> Result<Vec<
     Ok(copies)
 }
 
-/// Copies the queries. Each goes on from the instant after its mark; what it answers then follows
-/// the waiting answers.
-fn restarted_copies(
+/// Says from where each query goes on, by number, and copies its waiting answers.
+fn restarted_queries(
     alloc: Global,
     registered: &[Registration],
     remains: &[Remains],
-) -> Result<Vec<Registration>, AllocError>
+) -> Result<Vec<Restarted>, AllocError>
     requires { AreMarkable registered.now remains.now }
-    ensures { IfOk result (λ v. map query_of v.items
+    ensures { IfOk result (λ v. map restarted_of v.items
         ≡ restarted_by registered.now remains.now (earlier_in remains.now)) }
 {
-    let mut copies = bare_copies(alloc, registered)?;
-    restart(&mut copies, remains);
-    Ok(copies)
-}
-
-/// Copies the waiting answers, by the queries' numbers.
-fn waiting_of(alloc: Global, remains: &[Remains]) -> Result<Vec<WaitingAnswers>, AllocError>
-    ensures { IfOk result (λ v. v.items ≡ earlier_in remains.now) }
-{
-    let mut waiting = Vec::with_capacity(alloc, remains.len())?;
-    for it in remains {
-        waiting.push(it.waiting_copy(alloc)?)?;
+    let mut queries = Vec::with_capacity(alloc, registered.len())?;
+    for (query, remains) in registered.iter().zip(remains.iter()) {
+        queries.push(restarted(alloc, query, remains)?)?;
     }
-    Ok(waiting)
+    Ok(queries)
 }
 
-/// Copies the queries without their earlier answers.
-fn bare_copies(alloc: Global, registered: &[Registration]) -> Result<Vec<Registration>, AllocError>
-    ensures { IfOk result (λ v.
-        map query_of v.items ≡ map without_earlier (map query_of registered.now)) }
+/// Says from where the query goes on, and copies its waiting answers: from the instant after its
+/// mark, or after all instants if it has none.
+fn restarted(
+    alloc: Global,
+    query: &Registration,
+    remains: &Remains,
+) -> Result<Restarted, AllocError>
+    requires { IsMarkable (query_of query.now) (remains_of remains.now) }
+    ensures { IfOk result (λ r. restarted_of r
+        ≡ restart (query_of query.now) (mark_in (query_of query.now) (remains_of remains.now))
+        (answers_in (remains_of remains.now))) }
 {
-    let mut copies = Vec::with_capacity(alloc, registered.len())?;
-    for query in registered {
-        copies.push(bare_copy(alloc, query)?)?;
-    }
-    Ok(copies)
-}
-
-/// Copies the query without its earlier answers.
-fn bare_copy(alloc: Global, query: &Registration) -> Result<Registration, AllocError>
-    ensures { IfOk result (λ copy. query_of copy ≡ without_earlier (query_of query.now)) }
-{
-    let name = String::from_str(alloc, &query.name)?;
-    let slopes = copied_slopes(alloc, &query.slopes)?;
-    let places = copied_places(alloc, &query.places)?;
-    Ok(Registration {
-        name,
-        plan: Arc::clone(&query.plan)?,
-        slopes,
-        places,
-        first: query.first,
-        start: query.start,
-        before: Snapshot::of(&Remains::Dropped),
-        taken: query.taken,
-        ever_taken: query.ever_taken,
-        is_dropped: query.is_dropped,
-        pace: Pace::new(),
+    let waiting = remains.waiting_copy(alloc)?;
+    let start = next_of(query, remains).unwrap_or(ALL_INSTANTS);
+    Ok(Restarted {
+        query: Snapshot::of(query),
+        start,
+        waiting,
     })
-}
-
-/// Copies the slopes.
-fn copied_slopes(alloc: Global, slopes: &[Slope]) -> Result<Vec<Slope>, AllocError>
-    ensures { IfOk result (λ v. v.items ≡ slopes.now) }
-{
-    let mut copy = Vec::new(alloc);
-    copy.extend_from_slice(slopes)?;
-    Ok(copy)
-}
-
-/// Copies the sources.
-fn copied_places(alloc: Global, places: &[SourcePlace]) -> Result<Vec<SourcePlace>, AllocError>
-    ensures { IfOk result (λ v. v.items ≡ places.now) }
-{
-    let mut copy = Vec::new(alloc);
-    copy.extend_from_slice(places)?;
-    Ok(copy)
 }

@@ -278,6 +278,9 @@ module _ (streams : List Stream) (q : Registered) (p : PlainQuery) (h : MayRunAl
   pub alone_has : (k : ℕ) → k < length p.operators → HasOperator streams p k
   alone_has k lt = subst (λ z. HasOperator z p k) h.over ((may_ask e h.good).operators h.number k q p (is_operator e h.number q p h.good h.returned h.registered h.running k lt))
 
+  pub alone_lives : q.is_dropped ≡ false
+  alone_lives = (goes e h.number q p h.good h.returned h.registered h.running).lives
+
   pub alone_nodes : (k : ℕ) → k < length p.operators → k < length q.nodes
   alone_nodes k lt = omega (arith, lt, many e h.number q p h.good h.returned h.registered h.running)
 

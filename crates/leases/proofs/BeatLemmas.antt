@@ -20,7 +20,7 @@ use Rattle.run_queue.specs.Slots.{slot, with_next}
 use Rattle.run_queue.specs.declared.slots.Slot.{Slot}
 use Rattle.laws_engine.specs.Asks.{IsOperator}
 use Rattle.laws_engine.specs.Calls.{IsHeartbeat, closed_over, heartbeat_taken}
-use Rattle.laws_engine.specs.Engines.{GoodEngine, HasSlots, IsIn, PlainEngine, Running, next_at, query_at, remains_at, slope_at, slot_at, slot_of}
+use Rattle.laws_engine.specs.Engines.{AreRemains, GoodEngine, HasSlots, IsIn, PlainEngine, Running, next_at, query_at, remains_at, slope_at, slot_at, slot_of}
 use Rattle.laws_engine.specs.Resting.{IsResting}
 use Rattle.laws_engine.proofs.InstantLemmas.{few_closed_stand}
 use Rattle.laws_engine.proofs.AskLemmas.{may_ask}
@@ -159,7 +159,7 @@ module _ (e : PlainEngine) (s : ℕ) (at : ℤ) (g : GoodEngine e) (h : IsHeartb
       let o = is_slot e x.query x.operator x (slots_are e s rs x i) in
       let is : IsOperator (heartbeat_taken e s at) x.query x.operator o.query o.plain = record { registered = o.registered; running = o.running; within = o.within } in
       let may = may_ask (heartbeat_taken e s at) (heartbeat_good e s at g h) in
-      (o.query, (o.plain, record { registered = o.registered; running = o.running; within = o.within; operator = may.operators x.query x.operator o.query o.plain is; log = may.logs x.query x.operator o.query o.plain is })))
+      (o.query, (o.plain, record { registered = o.registered; lives = (subst (AreRemains e.machine o.query) o.running (g.queries x.query o.query o.registered)).lives; running = o.running; within = o.within; operator = may.operators x.query x.operator o.query o.plain is; log = may.logs x.query x.operator o.query o.plain is })))
 
   module _ (lists : (n k : ℕ) → IsResting e s n k → IsIn rs (reader s n k)) where
     waking : (n k : ℕ) → IsResting e s n k → HasOne (idle_slots e s rs) n k

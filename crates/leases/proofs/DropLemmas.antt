@@ -45,6 +45,15 @@ there m n h = there_by m.queries n (slice_get m.queries n) refl h
 pub registered_within : (rs : List Registration) (n : ℕ) → IsThere (map query_of rs) n → n < length rs
 registered_within rs n h = let many = length-map rs query_of in omega (arith, many, slice_get_within (map query_of rs) n h.query h.registered)
 
+-- and has its details
+pub lives_there : (rs : List Registration) (n : ℕ) (r : Registration) → IsThere (map query_of rs) n → r ≡ get_or rs n r → r.is_dropped ≡ false
+lives_there [] n r h is = let e : None ≡ Some h.query = h.registered in absurd (cc)
+lives_there (x ∷ rs) zero r h is =
+    let e : Some (query_of x) ≡ Some h.query = h.registered in
+    let same : query_of x ≡ h.query = cc in
+    ap (λ (z : Registration). z.is_dropped) is ∙ ap (λ (z : Registered). z.is_dropped) same ∙ h.undropped
+lives_there (x ∷ rs) (suc n) r h is = lives_there rs n r (record { query = h.query; registered = h.registered; undropped = h.undropped }) is
+
 pub remains_within : (e : PlainEngine) (ks : List Remains) (n : ℕ) → GoodEngine e → e.queries ≡ map remains_of ks → IsThere e.machine.queries n → n < length ks
 remains_within e ks n g same h =
     let many = length-map ks remains_of in

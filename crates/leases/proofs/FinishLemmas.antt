@@ -44,7 +44,7 @@ record FedBy (w : Wire) (k : ℕ) (es : List (Entry Row)) (os os2 : List PlainOp
 
 -- a slot more or less, and an operator stands where it stood
 pub at_slots : (e : PlainEngine) (slots : List Slot) (n k : ℕ) (q : Registered) (p : PlainQuery) → IsAt e n k q p → IsAt (record e { slots = slots }) n k q p
-at_slots e slots n k q p at = record { registered = at.registered; running = at.running; within = at.within; operator = at.operator; log = at.log }
+at_slots e slots n k q p at = record { registered = at.registered; lives = at.lives; running = at.running; within = at.within; operator = at.operator; log = at.log }
 
 -- A TURN THAT IS OUT of a good engine
 module _ (e : PlainEngine) (d : Lease) (q : Registered) (p : PlainQuery) (g : GoodEngine e) (of : IsOf e d q p) where
@@ -64,7 +64,7 @@ module _ (e : PlainEngine) (d : Lease) (q : Registered) (p : PlainQuery) (g : Go
   -- THE OPERATORS of its query
   pub is_at : (j : ℕ) → j < length q.nodes → IsAt e d.query j q p
   is_at j lt =
-      record { registered = of.registered; running = of.running; within = lt; operator = asks.operators d.query j q p (operator j lt); log = asks.logs d.query j q p (operator j lt) }
+      record { registered = of.registered; lives = goes.lives; running = of.running; within = lt; operator = asks.operators d.query j q p (operator j lt); log = asks.logs d.query j q p (operator j lt) }
 
   wire_is : (j : ℕ) → j < length q.nodes → wire_at p j ≡ wire_from 0 q.nodes j
   wire_is j lt =
@@ -168,6 +168,7 @@ module _ (e : PlainEngine) (d : Lease) (q : Registered) (p : PlainQuery) (g : Go
         let was = is_at j lt in
         record {
           registered = of.registered;
+          lives = goes.lives;
           running = here;
           within = lt;
           operator = record {

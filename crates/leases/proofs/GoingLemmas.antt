@@ -20,7 +20,7 @@ use Rattle.leases.specs.declared.state.forget.Going.{Going}
 pub next_small : (q : Registered) (k : PlainRemains) (p : PlainQuery) (last : Option ℕ) → IsMarkable q k → k ≡ Running p → last ≡ last_in (operator_at p.operators (length p.operators - 1)).state → (at : ℕ) → last ≡ Some at → at + 1 ≤ max q.first all_instants
 next_small q k p last h is e at told =
     let m : IsMarkable q (Running p) = subst (IsMarkable q) is h in
-    subst (λ (o : Option ℕ). behind q.first o ≤ max q.first all_instants) (ap (λ (n : ℕ). last_in (operator_at p.operators n).state) m.1.0 ∙ sym e ∙ told) m.1.1
+    subst (λ (o : Option ℕ). behind q.first o ≤ max q.first all_instants) (ap (λ (n : ℕ). last_in (operator_at p.operators n).state) m.1.0 ∙ sym e ∙ told) m.1.1.0
 
 -- THE QUERIES that run, one after the other
 abbrev going_among : List Registration → List Remains → List (Registered × ℕ)

@@ -13,7 +13,7 @@ use Rattle.run_queue.specs.Slots.{changed}
 use Rattle.run_queue.specs.declared.slots.Slot.{Slot}
 use Rattle.laws_engine.specs.Asks.{IsOperator}
 use Rattle.laws_engine.specs.Bounds.{HaveFewClosed}
-use Rattle.laws_engine.specs.Engines.{Dropped, HasSlots, IsIn, PlainEngine, PlainRemains, Running, query_at, remains_at, slot_at, slot_of}
+use Rattle.laws_engine.specs.Engines.{AreRemains, Dropped, HasSlots, IsIn, PlainEngine, PlainRemains, Running, query_at, remains_at, slot_at, slot_of}
 use Rattle.laws_engine.proofs.AskLemmas.{may_ask}
 use Rattle.laws_engine.proofs.BackLemmas.{remains_here, remains_there}
 use Rattle.leases.specs.Alone.{one_was_less_own}
@@ -283,6 +283,7 @@ module _ (e : PlainEngine) (rows : ℕ) (rest : List Job) (job : Job) (s : Engin
             after,
             record {
               registered = of.registered;
+              lives = (subst (AreRemains e1.machine q) running_on (on.after.good.queries n q registered_on)).lives;
               running = running_bare;
               within = lt;
               operator = subst (λ z. HasOperator z.streams after k) machine_on (may.operators n k q after (is_operator k lt));

@@ -59,7 +59,7 @@ module _ (s : EngineState) (n : ℕ) (sound : IsSound s) (runs_there : IsRunning
         let within : k < length found.0.nodes = omega (arith, lt, goes.runs.runs.many) in
         let is : IsOperator e n k found.0 p = record { registered = found.1; running = runs_there.1; within = within } in
         let may = may_ask e sound.good in
-        record { registered = found.1; running = runs_there.1; within = within; operator = may.operators n k found.0 p is; log = may.logs n k found.0 p is };
+        record { registered = found.1; lives = goes.lives; running = runs_there.1; within = within; operator = may.operators n k found.0 p is; log = may.logs n k found.0 p is };
   }
 
 -- AN OPERATOR of a query that may be looked at

@@ -33,7 +33,7 @@ module _ (s : EngineState) (h : IsSound s) where
       let stands = g.runs.runs.stands in
       let two : 2 ≤ length q.nodes = (shaped (widths_of e.machine.streams q) e.machine q stands.plan stands.wide).two in
       let low : next_of q p ≤ max q.first all_instants = omega (arith, next_reached e h.good n q p here runs, until_few e.machine.streams q.places h.closed.streams) in
-      (omega (arith, many, two), (ap (λ (k : ℕ). k - 1) (sym many), low))
+      (omega (arith, many, two), (ap (λ (k : ℕ). k - 1) (sym many), (low, g.lives)))
   has_mark n q (Broken answers upto) here broken = tt
   has_mark n q Dropped here dropped = tt
 

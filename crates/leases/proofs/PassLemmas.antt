@@ -95,7 +95,7 @@ module _ (s : EngineState) (x : Slot) (sound : IsSound s) (first : first_of s.sl
       let within : k < length q.nodes = omega (arith, lt, many) in
       let is : IsOperator e n k q p = record { registered = top.registered; running = top.running; within = within } in
       let may = may_ask e sound.good in
-      record { registered = top.registered; running = top.running; within = within; operator = may.operators n k q p is; log = may.logs n k q p is }
+      record { registered = top.registered; lives = goes.lives; running = top.running; within = within; operator = may.operators n k q p is; log = may.logs n k q p is }
 
   -- WHAT IS ASKED BEFORE
   pub may_look : MayLookAt e n

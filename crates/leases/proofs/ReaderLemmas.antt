@@ -68,7 +68,7 @@ module _ (e : PlainEngine) (g : GoodEngine e) (n k : ℕ) (q : Registered) (p : 
   pub has_operator_at : HasOperatorAt e n k
   has_operator_at =
       let o : IsOperator e n k q p = record { registered = r; running = running; within = within } in
-      (q, (p, record { registered = r; running = running; within = within; operator = (may_ask e g).operators n k q p o; log = (may_ask e g).logs n k q p o }))
+      (q, (p, record { registered = r; lives = (subst (AreRemains e.machine q) running (g.queries n q r)).lives; running = running; within = within; operator = (may_ask e g).operators n k q p o; log = (may_ask e g).logs n k q p o }))
 
 -- A QUERY OF THIS NUMBER, if one runs there: it is registered, and has as many operators as its plan has nodes
 pub runs_at : (e : PlainEngine) → GoodEngine e → (n : ℕ) (p : PlainQuery) → remains_at e n ≡ Running p → (q : Registered) × ((query_at e n ≡ Some q) × (length p.operators ≡ length q.nodes))
@@ -155,7 +155,7 @@ all_next P ss k s lt is h =
 pub asked_over : (s : EngineState) (slots : List Slot) (n k : ℕ) → HasOperatorAt (engine_in s) n k → HasOperatorAt (engine_in (with_slots s slots)) n k
 asked_over s slots n k h =
     let is = h.1.1 in
-    (h.0, (h.1.0, record { registered = is.registered; running = is.running; within = is.within; operator = is.operator; log = is.log }))
+    (h.0, (h.1.0, record { registered = is.registered; lives = is.lives; running = is.running; within = is.within; operator = is.operator; log = is.log }))
 
 -- the state after one slot more is told
 pub told_over : (s0 s s2 : EngineState) (slot : Slot) → s ≡ with_slots s0 s.slots → s2 ≡ with_slots s (with_update (engine_in s) slot s.slots) → s2 ≡ with_slots s0 (with_update (engine_in s0) slot s.slots)

@@ -47,7 +47,7 @@ pub next_early : (q : Registration) (k : PlainRemains) (p : PlainQuery) (last : 
 next_early q k p last h is e =
     let m : IsMarkable (query_of q) (Running p) = subst (IsMarkable (query_of q)) is h in
     let same : behind q.first last ≡ next_of (query_of q) p = ap (behind q.first) e ∙ ap (λ (n : ℕ). behind q.first (last_in (operator_at p.operators n).state)) (sym m.1.0) in
-    omega (arith, q.early, m.1.1, same)
+    omega (arith, q.early, m.1.1.0, same)
 
 module _ (all : List QueryStatus) where
   pub more_status : (old new : List QueryStatus) (qs qs2 : List Registration) (ks ks2 : List Remains) (q : Registration) (k : Remains) → qs ≡ q ∷ qs2 → ks ≡ k ∷ ks2 → new ≡ old ++ status_at (query_of q) (remains_of k) → old ++ queries_among qs ks ≡ all

@@ -1,5 +1,5 @@
 -- What the calls of an engine ask before they look up an operator.
-use Rattle.std.specs.Prelude.{ℕ, ◌≡◌, ◌<◌, Some, length}
+use Rattle.std.specs.Prelude.{ℕ, ◌≡◌, ◌<◌, Some, false, length}
 use Rattle.reference.specs.Machine.{Registered}
 use Rattle.laws_queries.specs.Queries.{PlainQuery, log_at}
 use Rattle.query_runtime.specs.Turns.{HasOperator, log_of}
@@ -9,9 +9,10 @@ use Rattle.laws_engine.specs.Engines.{PlainEngine, Running, query_at, remains_at
 abbrev pub IsRunningAt : PlainEngine → ℕ → Type 0
 IsRunningAt e n = (p : PlainQuery) × (remains_at e n ≡ Running p)
 
--- it has the operator k, and the stream that this reads is there
+-- it was not dropped, it has the operator k, and the stream that this reads is there
 pub record IsAt (e : PlainEngine) (n k : ℕ) (q : Registered) (p : PlainQuery) : Type 0 where
   pub registered : query_at e n ≡ Some q
+  pub lives : q.is_dropped ≡ false
   pub running : remains_at e n ≡ Running p
   pub within : k < length q.nodes
   pub operator : HasOperator e.machine.streams p k

@@ -1,6 +1,6 @@
 -- What is kept of a stream, and how the rows that stay are found.
-use Rattle.std.specs.Prelude.{ℕ, ◌≡◌, ◌-◌, ◌<◌, ◌≤◌, Bool, Option, None, Some, Result, Ok, Err}
-use Rattle.std.specs.Prelude.{List, [], length, map, max, slice_get, ⊤}
+use Rattle.std.specs.Prelude.{ℕ, ◌≡◌, ◌-◌, ◌<◌, ◌≤◌, Bool, false, Option, None, Some, Result, Ok}
+use Rattle.std.specs.Prelude.{Err, List, [], length, map, max, slice_get, ⊤}
 use Rattle.std.specs.Option.{option_map_or}
 use Rattle.values.specs.Row.{Row}
 use Rattle.values.specs.Window.{Element}
@@ -58,11 +58,12 @@ AreReadIn streams n = IsReadIn (slice_get streams n)
 abbrev pub IsReadLog : Closed → Type 0
 IsReadLog log = (s : Stream) × (IsRegular s × (log ≡ closed_of s))
 
--- A QUERY HAS ITS MARK: its root is its last operator, and the instant after
--- the mark is no greater than its first one or than all instants are many
+-- A QUERY HAS ITS MARK: its root is its last operator, the instant after the mark is no
+-- greater than its first one or than all instants are many, and it was not dropped
 abbrev pub IsMarkable : Registered → PlainRemains → Type 0
 IsMarkable q (Running p) = (0 < length p.operators)
-    × ((below_root q.nodes ≡ length p.operators - 1) × (next_of q p ≤ max q.first all_instants))
+    × ((below_root q.nodes ≡ length p.operators - 1)
+    × ((next_of q p ≤ max q.first all_instants) × (q.is_dropped ≡ false)))
 IsMarkable q (Broken answers upto) = ⊤
 IsMarkable q Dropped = ⊤
 

@@ -1,5 +1,4 @@
 -- The engine of the code as a plain value.
-use Rattle.std.specs.Arc.{arc_value}
 use Rattle.std.specs.Prelude.{ℕ, ◌≡◌, Option, Some, None, List, [], length, map, string_bytes}
 use Rattle.values.specs.Resolved.{resolved_of}
 use Rattle.turn.specs.declared.turns.Turn.{Turn}
@@ -25,15 +24,15 @@ remains_of (code.Running p) = Running p
 remains_of (code.Broken answers reach) = Broken answers reach.next
 remains_of code.Dropped = Dropped
 
--- a registered query; the answers that waited when
--- rows were last forgotten are known to the proof alone
+-- a registered query; the answers that waited when rows were last
+-- forgotten, and what a dropped query was, are known to the proof alone
 abbrev pub query_of : Registration → Registered
 query_of r = record {
-  name = string_bytes r.name;
-  meaning = resolved_of (arc_value r.plan).meaning;
-  nodes = nodes_of (arc_value r.plan).nodes.items;
-  measures = (arc_value r.plan).measures.items;
-  places = map place_of r.places.items;
+  name = string_bytes r.known.value.name;
+  meaning = resolved_of r.known.value.plan.meaning;
+  nodes = nodes_of r.known.value.plan.nodes.items;
+  measures = r.known.value.plan.measures.items;
+  places = map place_of r.known.value.places.items;
   first = r.first;
   start = r.start;
   earlier = answers_in (remains_of r.before.value);

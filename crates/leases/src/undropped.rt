@@ -1,6 +1,7 @@
 //! Keeps names and row limits of the queries that were not dropped, including broken ones.
 ghost use Rattle.std.specs.Prelude.{◌≡◌, ◌<◌, ◌≤◌, ◌^◌, ◌+◌, ◌++◌, ◌∷◌, ◌==◌, [], None, OnErr};
-ghost use Rattle.std.specs.Prelude.{OnOk, Some, filter, length, map, not, position, set, slice_get};
+ghost use Rattle.std.specs.Prelude.{OnOk, Some, false, filter, length, map, not, position, set};
+ghost use Rattle.std.specs.Prelude.{slice_get};
 ghost use Rattle.std.specs.Vec.{vec_capacity, vec_len};
 ghost use Rattle.name_table.specs.Names.{bears};
 ghost use Rattle.leases.specs.Undropped.{least, limit_at, limits_in, tightened};
@@ -72,6 +73,7 @@ impl Undropped {
     ) -> Result<(), AllocError>
         requires fresh { position (bears name.now) self.old.names ≡ None }
         requires room { length self.old.names < 2 ^ 63 }
+        requires live { query.now.is_dropped ≡ false }
         ensures ok { OnOk result (self.new
             ≡ record {
               names = self.old.names ++ Some name.now ∷ [];
@@ -79,7 +81,7 @@ impl Undropped {
             }) }
         ensures err { OnErr result (self.new ≡ self.old) }
     {
-        self.limits.reserve(query.places.len())?;
+        self.limits.reserve(query.details().places.len())?;
         self.names.push(name)?;
         put_limits(&mut self.limits, query, number);
         Ok(())
@@ -120,14 +122,16 @@ fn limit_of(place: SourcePlace, query: u64, rows: u64) -> RowLimit
 
 /// Appends the limits of a query. There is room for them.
 fn put_limits(limits: &mut Vec<RowLimit>, query: &Registration, number: u64)
-    requires { vec_len limits.old + length query.now.places.items ≤ vec_capacity limits.old }
+    requires room { vec_len limits.old + length query.now.known.value.places.items
+        ≤ vec_capacity limits.old }
+    requires live { query.now.is_dropped ≡ false }
     ensures { limits.new.items ≡ limits.old.items ++ limits_in number (query_of query.now) }
 {
-    if query.is_dropped || query.places.len() <= 2 {
+    let places = &query.details().places;
+    if places.len() <= 2 {
         return;
     }
-    let rows = rows_of_each(query.places.len());
-    put_each(limits, &query.places, number, rows);
+    put_each(limits, places, number, rows_of_each(places.len()));
 }
 
 /// Appends the limits of these sources. There is room for them.

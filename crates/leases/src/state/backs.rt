@@ -1,16 +1,13 @@
 //! Gives up turns that do not come back, and drops or stops queries.
 ghost use Rattle.std.specs.Prelude.{◌≡◌, OnErr, OnOk};
-ghost use Rattle.reference.specs.Commands as machine;
 ghost use Rattle.reference.specs.World.{drop_step};
 ghost use Rattle.laws_engine.specs.Calls.{dropped};
 ghost use Rattle.leases.specs.Applied.{Stops};
 ghost use Rattle.leases.specs.Shown.{engine_in, world_in};
 ghost use Rattle.leases.specs.Sound.{IsSound};
 ghost use Rattle.leases.specs.Turns.{Abandons};
-ghost use Rattle.leases.specs.Views.{query_of};
 
 use crate::reader::forget_readers;
-use crate::registered::Registration;
 use crate::remains::Remains;
 use crate::state::EngineState;
 use reference::Fault;
@@ -48,9 +45,11 @@ impl EngineState {
         if let Some(fault) = self.query_fault(query) {
             return Err(fault);
         }
-        self.undropped
-            .free(self.registered[query as usize].name.as_str(), query);
-        leave(&mut self.registered[query as usize]);
+        self.undropped.free(
+            self.registered[query as usize].details().name.as_str(),
+            query,
+        );
+        self.registered[query as usize].leave();
         self.remains[query as usize] = Remains::Dropped;
         self.stop(query);
         Ok(())
@@ -64,11 +63,4 @@ impl EngineState {
         forget_readers(&mut self.readers, query);
         self.slots.drop_query(query);
     }
-}
-
-/// Marks the query as dropped.
-fn leave(query: &mut Registration)
-    ensures { query_of query.new ≡ machine.dropped (query_of query.old) }
-{
-    query.is_dropped = true;
 }

@@ -1,10 +1,9 @@
 //! Gives up the rows that no query needs any longer.
-ghost use Rattle.std.specs.Prelude.{◌≡◌, ◌⊎◌, ◌++◌, ◌+◌, ◌≤◌, IfOk, OnErr, OnOk, Some};
-ghost use Rattle.std.specs.Prelude.{ℕ, Bool, map, max, slice_get};
+ghost use Rattle.std.specs.Prelude.{◌≡◌, ◌⊎◌, ◌++◌, ◌+◌, ◌≤◌, IfOk, IfSome, OnErr, OnOk, Some};
+ghost use Rattle.std.specs.Prelude.{ℕ, Bool, false, map, max, slice_get};
 ghost use Rattle.std.specs.List.{range_with_len};
 ghost use Rattle.values.specs.Row.{value_at};
 ghost use Rattle.values.specs.Window.{Element};
-ghost use Rattle.std.specs.Arc.{arc_value};
 ghost use Rattle.reference.specs.Machine.{Stream};
 ghost use Rattle.reference.specs.Opening.{all_instants, restart, with_kept};
 ghost use Rattle.stream_store.specs.Closing.{closed_of};
@@ -27,7 +26,6 @@ use crate::remains::Remains;
 use crate::state::EngineState;
 use needed_rows::{ClosedRows, Reader, needed};
 use std::alloc::{AllocError, Global};
-use std::ops::Deref;
 use std::snapshot::Snapshot;
 use stream_store::{Log, Start, Streams};
 use values::{Value, Window};
@@ -53,6 +51,7 @@ struct Going<'a> {
     query: &'a Registration,
     /// Holds the instant after the last tick that its root took, or its first instant.
     next: u64,
+    ghost lives: { query.now.is_dropped ≡ false },
 }
 
 impl EngineState {
@@ -135,7 +134,8 @@ impl EngineState {
 /// Returns the instant after the query's mark, or `None` if it does not run.
 pub(super) fn next_of(query: &Registration, remains: &Remains) -> Option<u64>
     requires { IsMarkable (query_of query.now) (remains_of remains.now) }
-    ensures { result ≡ mark_in (query_of query.now) (remains_of remains.now) }
+    ensures mark { result ≡ mark_in (query_of query.now) (remains_of remains.now) }
+    ensures live { IfSome result (λ _. query.now.is_dropped ≡ false) }
 {
     match remains {
         Remains::Running(running) => Some(next_behind(query.first, running.last_tick())),
@@ -243,9 +243,10 @@ fn readers_over<'a>(
 
 /// Returns the windows of a query.
 fn windows_of(query: &Registration) -> &[Window]
-    ensures { result.now ≡ (arc_value query.now.plan).meaning.windows.items }
+    requires { query.now.is_dropped ≡ false }
+    ensures { result.now ≡ query.now.known.value.plan.meaning.windows.items }
 {
-    &query.plan.deref().meaning.windows
+    &query.details().plan.meaning.windows
 }
 
 /// Appends the sources that a query has over a stream.
@@ -255,12 +256,13 @@ fn push_readers<'a>(
     query: &'a Registration,
     next: u64,
 ) -> Result<(), AllocError>
+    requires { query.now.is_dropped ≡ false }
     ensures { OnOk result (readers_in readers.new.items
         ≡ readers_in readers.old.items
         ++ readers_of stream (query_of query.now) next (query_of query.now).meaning.windows
         (query_of query.now).places) }
 {
-    for (place, window) in query.places.iter().zip(windows_of(query)) {
+    for (place, window) in query.details().places.iter().zip(windows_of(query)) {
         if place.stream == stream {
             readers.push(Reader {
                 place: place.arrivals,

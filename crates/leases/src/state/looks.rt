@@ -1,5 +1,5 @@
 //! Makes the state of an empty engine, and looks up what calls need.
-ghost use Rattle.std.specs.Prelude.{◌≡◌, ◌<◌, IfSome, Some, length, slice_get};
+ghost use Rattle.std.specs.Prelude.{◌≡◌, ◌<◌, IfSome, Some, false, length, slice_get};
 ghost use Rattle.std.specs.Option.{option_map};
 ghost use Rattle.reference.specs.Commands.{Drop, first_fault};
 ghost use Rattle.reference.specs.Machine as machine;
@@ -62,8 +62,9 @@ impl EngineState {
 
     /// Returns the query with this number, if it was not dropped.
     pub(crate) fn query_at(&self, query: u64) -> Option<&Registration>
-        ensures { option_map (λ q. query_of q.now) result
+        ensures query { option_map (λ q. query_of q.now) result
             ≡ machine.query_at (engine_in self.now).machine query }
+        ensures live { IfSome result (λ q. q.now.is_dropped ≡ false) }
     {
         match self.registered.get(query as usize) {
             Some(registered) if !registered.is_dropped => Some(registered),
@@ -118,8 +119,9 @@ impl EngineState {
 
 /// Returns the slope of an operator of a registered query.
 pub(crate) fn slope_of(query: &Registration, operator: usize) -> Slope
-    requires { operator < length (query_of query.now).nodes }
+    requires within { operator < length (query_of query.now).nodes }
+    requires live { query.now.is_dropped ≡ false }
     ensures { result ≡ slope_at (query_of query.now) operator }
 {
-    query.slopes[operator]
+    query.details().slopes[operator]
 }

@@ -28,9 +28,8 @@ ghost use Rattle.leases.specs.Shown.{engine_in, world_in};
 ghost use Rattle.leases.specs.Sound.{IsSound};
 ghost use Rattle.leases.specs.Views.{place_of, query_of};
 
-use crate::pace::Pace;
 use crate::reader::WindowReader;
-use crate::registered::{Registration, SourcePlace};
+use crate::registered::{Details, Registration, SourcePlace};
 use crate::remains::Remains;
 use crate::state::EngineState;
 use envelope::Slope;
@@ -39,8 +38,6 @@ use query_runtime::RunningQuery;
 use reference::{Fault, count_undropped, find_plan, first_instant, query_place, register_fault};
 use run_queue::{RunQueue, Slot};
 use std::alloc::{AllocError, Global};
-use std::snapshot::Snapshot;
-use std::sync::Arc;
 use stream_store::Streams;
 
 impl EngineState {
@@ -162,7 +159,7 @@ impl EngineState {
             &mut self.slots,
             &self.streams,
             &running,
-            &told.slopes,
+            &told.details().slopes,
             number,
         )?;
         let Ok(()) = self.undropped.add(name, &told, number) else {
@@ -274,20 +271,13 @@ fn registration(
 {
     let name = String::from_str(alloc, name)?;
     let slopes = slopes(alloc, &plan)?;
-    let plan = Arc::new(alloc, plan)?;
-    Ok(Registration {
+    let details = Details {
         name,
         plan,
         slopes,
         places,
-        first,
-        start: first,
-        before: Snapshot::of(&Remains::Dropped),
-        taken: 0,
-        ever_taken: 0,
-        is_dropped: false,
-        pace: Pace::new(),
-    })
+    };
+    Registration::new(alloc, details, first)
 }
 
 /// Adds the slots of a new query.
@@ -334,6 +324,7 @@ fn new_slot(
 
 /// Appends the windows of a new query to the readers. There is room for them.
 fn put_readers(readers: &mut Vec<WindowReader>, query: &Registration, number: u64)
+    requires live { query.now.is_dropped ≡ false }
     requires room { vec_len readers.old + length (query_of query.now).nodes
         ≤ vec_capacity readers.old }
     requires sources { (k : ℕ) → k < length (query_of query.now).nodes
@@ -351,6 +342,7 @@ fn put_readers(readers: &mut Vec<WindowReader>, query: &Registration, number: u6
 
 /// Makes a reader of the operator of the query with this number, if it is a window.
 fn reader_of(query: &Registration, number: u64, operator: usize) -> Option<WindowReader>
+    requires live { query.now.is_dropped ≡ false }
     requires within { operator < length (query_of query.now).nodes }
     requires source { HasSource (query_of query.now) (node_at (query_of query.now) operator) }
     ensures { result
@@ -358,7 +350,7 @@ fn reader_of(query: &Registration, number: u64, operator: usize) -> Option<Windo
 {
     match &query.nodes()[operator] {
         Node::Window(source) => Some(WindowReader {
-            stream: query.places[*source].stream,
+            stream: query.details().places[*source].stream,
             query: number,
             operator,
         }),

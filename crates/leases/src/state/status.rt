@@ -1,5 +1,5 @@
 //! Says how far queries and streams are.
-ghost use Rattle.std.specs.Prelude.{◌≡◌, ◌+◌, ◌≤◌, ◌++◌, ℕ, IfOk, OnOk, Some, map, max};
+ghost use Rattle.std.specs.Prelude.{◌≡◌, ◌+◌, ◌≤◌, ◌++◌, ℕ, IfOk, OnOk, Some, false, map, max};
 ghost use Rattle.reference.specs.Opening.{all_instants};
 ghost use Rattle.reference.specs.Status.{last_before, query_status, stream_status};
 ghost use Rattle.reference.specs.StatusViews.{query_status_in, status_in, stream_status_in};
@@ -90,13 +90,14 @@ fn query_status(
     query: &Registration,
     remains: &Remains,
 ) -> Result<QueryStatus, AllocError>
-    requires { IsMarkable (query_of query.now) (remains_of remains.now) }
+    requires live { query.now.is_dropped ≡ false }
+    requires marked { IsMarkable (query_of query.now) (remains_of remains.now) }
     ensures { IfOk result (λ s. query_status_in s
         ≡ query_status (query_of query.now) (answers_in (remains_of remains.now))
         (upto_in (query_of query.now) (remains_of remains.now))
         (is_broken (remains_of remains.now))) }
 {
-    let name = String::from_str(alloc, &query.name)?;
+    let name = String::from_str(alloc, &query.details().name)?;
     let reach = reach(query, remains);
     Ok(QueryStatus {
         name,

@@ -1,6 +1,6 @@
 //! Hands out answers, and shows what waits.
 ghost use Rattle.std.specs.Prelude.{ℕ, ◌≡◌, ◌+◌, ◌++◌, ◌<◌, ◌^◌, IfOk, IfSome, None, OnOk, Some};
-ghost use Rattle.std.specs.Prelude.{length, pos, true};
+ghost use Rattle.std.specs.Prelude.{false, length, pos, true};
 ghost use Rattle.plan.specs.Views.{node_of, nodes_of};
 ghost use Rattle.reference.specs.CallViews.{handed_of};
 ghost use Rattle.reference.specs.Commands.{Drop, Take, first_fault, took};
@@ -167,9 +167,10 @@ pub(super) fn count_taken(registered: &mut Registration, count: usize)
 /// Returns what each operator of a query does, with its slope.
 #[tactic(auto, unfolding(reference::specs::World::operators_of))]
 fn operators(alloc: Global, query: &Registration) -> Result<Vec<(NodeKind, Slope)>, AllocError>
+    requires { query.now.is_dropped ≡ false }
     ensures { IfOk result (λ v. v.items ≡ operators_of (query_of query.now)) }
 {
-    paired(alloc, query.nodes(), &query.slopes)
+    paired(alloc, query.nodes(), &query.details().slopes)
 }
 
 /// Returns how much waits in each queue of the operators of a running query.

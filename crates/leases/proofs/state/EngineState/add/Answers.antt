@@ -13,12 +13,13 @@ use Rattle.leases.proofs.LimitLemmas.{kept}
 use Rattle.leases.specs.Views.{query_of}
 use Rattle.leases.specs.declared.remains.Remains.TheVariants as code
 use Rattle.leases.proofs.AddLemmas.{engine_still, engine_with, free_name, new_operators, new_sources, none_there, slots_are, sound_still, sound_with}
+use Rattle.leases.proofs.LookLemmas.{known_slopes}
 use Rattle.leases.proofs.RegisterLemmas.{left_again}
 use Rattle.leases.proofs.state.EngineState.add.Goals as goal
 
 pub put_slots-requires-clause-operators : goal.put_slots-requires-clause-operators
 put_slots-requires-clause-operators c =
-    new_operators (engine_in c.args.self.now) (query_of c.args.told) c.args.running c.deref.result.now c.requires.sound.good.many c.requires.good (c.deref.ensures.value ∙ c.args.told.sloped)
+    new_operators (engine_in c.args.self.now) (query_of c.args.told) c.args.running c.deref.result.now c.requires.sound.good.many c.requires.good (c.deref.ensures.value ∙ known_slopes c.details.result.now c.args.told c.details.ensures)
 
 pub put_slots-requires-clause-new : goal.put_slots-requires-clause-new
 put_slots-requires-clause-new c =
@@ -38,7 +39,7 @@ returns-clause-engine c =
     let s = c.args.self.now in
     let put : c.put_slots.new.slots ≡ (registered (engine_in s) (query_of c.args.told) c.args.running).slots =
     c.in_ok-put_slots.ensures.ok ∙ ap (λ n. with_first s.streams c.args.running c.deref.result.now n (length c.deref.result.now) s.slots) c.next_query-number.ensures
-    ∙ slots_are (engine_in s) (query_of c.args.told) c.args.running c.deref.result.now c.requires.sound.good.many c.requires.good (c.deref.ensures.value ∙ c.args.told.sloped) c.requires.sound.good in
+    ∙ slots_are (engine_in s) (query_of c.args.told) c.args.running c.deref.result.now c.requires.sound.good.many c.requires.good (c.deref.ensures.value ∙ known_slopes c.details.result.now c.args.told c.details.ensures) c.requires.sound.good in
     engine_with s.streams s.registered.items c.push_reserved.new.self.items s.remains.items c.push_reserved-2.new.self.items s.leases.items s.next s.slots c.put_slots.new.slots c.args.told c.args.running
     (c.push_reserved.ensures.items ∙ ap (λ l. l ++ c.args.told ∷ []) c.reserve.ensures.items) (c.push_reserved-2.ensures.items ∙ ap (λ l. l ++ code.Running c.args.running ∷ []) c.reserve-2.ensures.items) put
 
@@ -66,4 +67,4 @@ returns-in_default-clause-sound c =
 
 pub put_readers-requires-clause-sources : goal.put_readers-requires-clause-sources
 put_readers-requires-clause-sources c =
-    new_sources (engine_in c.args.self.now) (query_of c.args.told) c.args.running c.deref.result.now c.requires.sound.good.many c.requires.good (c.deref.ensures.value ∙ c.args.told.sloped)
+    new_sources (engine_in c.args.self.now) (query_of c.args.told) c.args.running c.deref.result.now c.requires.sound.good.many c.requires.good (c.deref.ensures.value ∙ known_slopes c.details.result.now c.args.told c.details.ensures)

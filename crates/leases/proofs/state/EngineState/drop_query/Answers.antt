@@ -18,9 +18,10 @@ use Rattle.leases.specs.declared.undropped.RowLimit.{RowLimit}
 use Rattle.leases.proofs.LimitLemmas.{kept, undropped_less}
 use Rattle.turn.specs.declared.turns.Turn.{Turn}
 use Rattle.leases.specs.declared.reader.WindowReader.{WindowReader}
+use Rattle.leases.specs.declared.registered.Details.{Details}
 use Rattle.leases.specs.declared.registered.Registration.{Registration}
 use Rattle.leases.specs.declared.state.EngineState.{EngineState}
-use Rattle.leases.proofs.DropLemmas.{another, drops, gone_dropped, is_dropped, named_there, refused, registered_dropped, registered_within, remains_dropped, remains_within, there}
+use Rattle.leases.proofs.DropLemmas.{another, drops, gone_dropped, is_dropped, lives_there, named_there, refused, registered_dropped, registered_within, remains_dropped, remains_within, there}
 use Rattle.leases.proofs.LeaveLemmas.{fewer}
 use Rattle.leases.specs.declared.remains.Remains.TheVariants as code
 use Rattle.leases.proofs.OutLemmas.{remains_set}
@@ -37,6 +38,9 @@ pub index-requires : goal.index-requires
 index-requires c =
     let within : c.args.query < length c.args.self.now.registered.items = registered_within c.args.self.now.registered.items c.args.query (there (engine_in c.args.self.now).machine c.args.query (sym c.query_fault.ensures.first ∙ c.in_default.is)) in
     omega (arith, within)
+
+pub details-requires : goal.details-requires
+details-requires c = lives_there c.args.self.now.registered.items c.args.query c.index.result.now (there (engine_in c.args.self.now).machine c.args.query (sym c.query_fault.ensures.first ∙ c.in_default.is)) c.index.ensures
 
 pub index_mut-requires : goal.index_mut-requires
 index_mut-requires c =
@@ -55,7 +59,7 @@ pub returns-clause-engine : goal.returns-clause-engine
 returns-clause-engine c =
     ap (λ (s : EngineState). engine_in s) c.stop.ensures.rest
     ∙ is_dropped c.args.self.now.streams c.args.self.now.registered.items c.args.self.now.remains.items c.args.self.now.leases.items c.stop.new.self.leases.items c.args.self.now.next c.args.self.now.slots c.stop.new.self.slots c.args.query
-    c.stop.ensures.leases c.stop.ensures.slots c.leave.new.query c.index_mut.result.now (c.leave.ensures ∙ ap (λ z. machine.dropped (query_of z)) c.index_mut.ensures.value)
+    c.stop.ensures.leases c.stop.ensures.slots c.leave.new.self c.index_mut.result.now (c.leave.ensures ∙ ap (λ z. machine.dropped (query_of z)) c.index_mut.ensures.value)
 
 pub returns-clause-world : goal.returns-clause-world
 returns-clause-world c =
@@ -65,7 +69,7 @@ returns-clause-world c =
 pub returns-clause-sound : goal.returns-clause-sound
 returns-clause-sound c =
     let is = is_dropped c.args.self.now.streams c.args.self.now.registered.items c.args.self.now.remains.items c.args.self.now.leases.items c.stop.new.self.leases.items c.args.self.now.next c.args.self.now.slots c.stop.new.self.slots c.args.query
-    c.stop.ensures.leases c.stop.ensures.slots c.leave.new.query c.index_mut.result.now (c.leave.ensures ∙ ap (λ z. machine.dropped (query_of z)) c.index_mut.ensures.value) in
+    c.stop.ensures.leases c.stop.ensures.slots c.leave.new.self c.index_mut.result.now (c.leave.ensures ∙ ap (λ z. machine.dropped (query_of z)) c.index_mut.ensures.value) in
     subst IsSound (sym c.stop.ensures.rest) (record {
       good = subst GoodEngine (sym is)
           (drop_good (engine_in c.args.self.now) c.args.query c.requires.good (sym c.query_fault.ensures.first ∙ c.in_default.is));
@@ -84,12 +88,12 @@ returns-clause-sound c =
           c.free.ensures
           (ap (λ (u : UndroppedQueries). slice_get u.names c.args.query) c.requires.named
           ∙ named_there c.args.self.now.registered.items c.args.query c.index.result.now (there (engine_in c.args.self.now).machine c.args.query (sym c.query_fault.ensures.first ∙ c.in_default.is))
-          ∙ ap (λ (r : Registration). Some (Some (string_bytes r.name))) (sym c.index.ensures) ∙ ap (λ z. Some (Some z)) (sym c.as_str.ensures.value))
+          ∙ ap (λ (r : Registration). Some (Some (string_bytes r.known.value.name))) (sym c.index.ensures) ∙ ap (λ (d : Details). Some (Some (string_bytes d.name))) (sym c.details.ensures) ∙ ap (λ z. Some (Some z)) (sym c.as_str.ensures.value))
           ∙ ap (λ (u : UndroppedQueries). kept (set u.names c.args.query None) (filter (λ (l : RowLimit). not (l.query == c.args.query)) u.limits)) c.requires.named
           ∙ undropped_less (map query_of c.args.self.now.registered.items) c.args.query
-          ∙ ap undropped_of (sym (registered_dropped c.args.self.now.registered.items c.args.query c.leave.new.query c.index_mut.result.now (c.leave.ensures ∙ ap (λ z. machine.dropped (query_of z)) c.index_mut.ensures.value)));
+          ∙ ap undropped_of (sym (registered_dropped c.args.self.now.registered.items c.args.query c.leave.new.self c.index_mut.result.now (c.leave.ensures ∙ ap (λ z. machine.dropped (query_of z)) c.index_mut.ensures.value)));
       gone =
-          ap (λ z. map (λ q. q.is_dropped) z) (registered_dropped c.args.self.now.registered.items c.args.query c.leave.new.query c.index_mut.result.now (c.leave.ensures ∙ ap (λ z. machine.dropped (query_of z)) c.index_mut.ensures.value))
+          ap (λ z. map (λ q. q.is_dropped) z) (registered_dropped c.args.self.now.registered.items c.args.query c.leave.new.self c.index_mut.result.now (c.leave.ensures ∙ ap (λ z. machine.dropped (query_of z)) c.index_mut.ensures.value))
           ∙ gone_dropped (map query_of c.args.self.now.registered.items) (map remains_of c.args.self.now.remains.items) c.args.query c.requires.gone
           ∙ ap (λ z. map is_gone z) (sym (remains_dropped c.args.self.now.remains.items c.args.query));
       columns = c.requires.columns;
@@ -101,5 +105,5 @@ returns-clause-sound c =
           ∙ sym (readers_changed machine.dropped (λ q j. refl) (λ q. refl) 0 c.args.query (map query_of c.args.self.now.registered.items) (set (map runs (map remains_of c.args.self.now.remains.items)) c.args.query false))
           ∙ ap (readers_from 0 (change c.args.query machine.dropped (map query_of c.args.self.now.registered.items)))
           (sym (ap (λ ks. map runs ks) (remains_set c.args.self.now.remains.items c.args.query code.Dropped) ∙ map-set runs (map remains_of c.args.self.now.remains.items) c.args.query Dropped))
-          ∙ ap (λ z. readers_from 0 z (map runs (map remains_of (set c.args.self.now.remains.items c.args.query code.Dropped)))) (sym (registered_dropped c.args.self.now.registered.items c.args.query c.leave.new.query c.index_mut.result.now (c.leave.ensures ∙ ap (λ z. machine.dropped (query_of z)) c.index_mut.ensures.value)));
+          ∙ ap (λ z. readers_from 0 z (map runs (map remains_of (set c.args.self.now.remains.items c.args.query code.Dropped)))) (sym (registered_dropped c.args.self.now.registered.items c.args.query c.leave.new.self c.index_mut.result.now (c.leave.ensures ∙ ap (λ z. machine.dropped (query_of z)) c.index_mut.ensures.value)));
     })

@@ -2,9 +2,15 @@
 use Rattle.std.proofs.Common.{◌≡◌, ◌<◌, IfOk, length, subst}
 use Rattle.plan.specs.Views.{nodes_of}
 use Rattle.query_runtime.specs.Turns.{log_of}
-use Rattle.leases.proofs.LengthLemmas.{lengths_are, noughts_are, operators_there}
+use Rattle.leases.proofs.LengthLemmas.{accepted_lives, lengths_are, noughts_are, operators_there}
 use Rattle.leases.specs.Looks.{lengths_from, noughts_of}
 use Rattle.leases.proofs.state.EngineState.lengths.Goals as goal
+
+pub nodes-requires : goal.nodes-requires
+nodes-requires c = accepted_lives c.args.self.now c.args.query c.index-in-Running.result.now c.requires.accepted c.index-in-Running.ensures
+
+pub nodes-in-Broken-requires : goal.nodes-in-Broken-requires
+nodes-in-Broken-requires c = accepted_lives c.args.self.now c.args.query c.index-in-Broken.result.now c.requires.accepted c.index-in-Broken.ensures
 
 pub queues-requires : goal.queues-requires
 queues-requires c = λ k within.

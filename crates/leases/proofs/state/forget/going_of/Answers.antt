@@ -13,7 +13,7 @@ loop-query-preserved-in-Continue-1 c = (
   later_markable c.loop-query.query-iterator.a.rest.now c.next.new.self.a.rest.now c.loop-query.query-iterator.b.rest.now c.next.new.self.b.rest.now c.in-Some.query.now c.in-Some.remains.now
       c.in-Some.ensures.steps.0 c.in-Some.ensures.steps.1 c.loop-query.invariant.0,
   more_going _ c.loop-query.going.items c.push.new.self.items c.loop-query.query-iterator.a.rest.now c.next.new.self.a.rest.now c.loop-query.query-iterator.b.rest.now c.next.new.self.b.rest.now
-      c.in-Some.query.now c.in-Some.remains.now _ c.in-Some-next_of.next c.in-Some.ensures.steps.0 c.in-Some.ensures.steps.1 (sym c.next_of.ensures ∙ c.in-Some-next_of.is) refl c.in_ok-push.ensures.items c.loop-query.invariant.1,
+      c.in-Some.query.now c.in-Some.remains.now _ c.in-Some-next_of.next c.in-Some.ensures.steps.0 c.in-Some.ensures.steps.1 (sym c.next_of.ensures.mark ∙ c.in-Some-next_of.is) refl c.in_ok-push.ensures.items c.loop-query.invariant.1,
 )
 
 pub loop-query-preserved : goal.loop-query-preserved
@@ -21,7 +21,7 @@ loop-query-preserved c = (
   later_markable c.loop-query.query-iterator.a.rest.now c.next.new.self.a.rest.now c.loop-query.query-iterator.b.rest.now c.next.new.self.b.rest.now c.in-Some.query.now c.in-Some.remains.now
       c.in-Some.ensures.steps.0 c.in-Some.ensures.steps.1 c.loop-query.invariant.0,
   other_going _ c.loop-query.going.items c.loop-query.query-iterator.a.rest.now c.next.new.self.a.rest.now c.loop-query.query-iterator.b.rest.now c.next.new.self.b.rest.now
-      c.in-Some.query.now c.in-Some.remains.now c.in-Some.ensures.steps.0 c.in-Some.ensures.steps.1 (sym c.next_of.ensures ∙ c.in_default.is) c.loop-query.invariant.1,
+      c.in-Some.query.now c.in-Some.remains.now c.in-Some.ensures.steps.0 c.in-Some.ensures.steps.1 (sym c.next_of.ensures.mark ∙ c.in_default.is) c.loop-query.invariant.1,
 )
 
 pub returns : goal.returns

@@ -17,7 +17,7 @@ pub loop-query-preserved : goal.loop-query-preserved
 loop-query-preserved c =
     restarts_next c.args.registered.now c.args.remains.now c.requires c.loop-query.query c.loop-query.registered c.loop-query.invariant (omega (arith, c.loop-query-test.true))
     c.index-registered-query.result c.index-remains-query.result c.index-registered-query-in-loop-query.result c.index-remains-query.result c.next_of-next.result _ c.restart_one.new.query _
-    c.index-remains-query.is c.next_of-next.ensures c.restart_one.ensures refl (omega arith)
+    c.index-remains-query.is c.next_of-next.ensures.mark c.restart_one.ensures refl (omega arith)
 
 pub returns : goal.returns
 returns c = restarts_all c.args.registered.now c.args.remains.now c.requires c.loop-query.query c.loop-query.registered c.loop-query.invariant (omega (arith, c.loop-query.auto.query-end, c.loop-query-test.false))

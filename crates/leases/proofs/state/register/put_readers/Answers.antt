@@ -1,4 +1,3 @@
-use Rattle.std.specs.Arc.{arc_value}
 use Rattle.std.proofs.Common.{◌≡◌, ◌∙◌, ◌++◌, length, sym, ap, arith, append-nil}
 use Rattle.std.proofs.lemmas.List.{length-map}
 use Rattle.plan.specs.Views.{node_of}
@@ -12,8 +11,8 @@ use Rattle.leases.proofs.state.register.put_readers.Goals.{in-Some, in_default}
 pub loop-operator-preserved : goal.loop-operator-preserved
 loop-operator-preserved c =
     let q = query_of c.args.query.now in
-    let many : length (query_of c.args.query.now).nodes ≡ length (arc_value c.args.query.now.plan).nodes.items = length-map (arc_value c.args.query.now.plan).nodes.items node_of in
-    let end : length c.nodes-operator-end.result.now ≡ length (arc_value c.args.query.now.plan).nodes.items = ap (λ ns. length ns) c.nodes-operator-end.ensures in
+    let many : length (query_of c.args.query.now).nodes ≡ length c.args.query.now.known.value.plan.nodes.items = length-map c.args.query.now.known.value.plan.nodes.items node_of in
+    let end : length c.nodes-operator-end.result.now ≡ length c.args.query.now.known.value.plan.nodes.items = ap (λ ns. length ns) c.nodes-operator-end.ensures in
     elim c.match-reader_of.branch [
       | in-Some w ↦
           let len : vec_len c.match-reader_of.readers ≡ vec_len w.push_reserved.new.self = ap (λ v. vec_len v) w.readers-is in
@@ -35,6 +34,6 @@ loop-operator-preserved c =
 
 pub returns : goal.returns
 returns c =
-    let many : length (query_of c.args.query.now).nodes ≡ length (arc_value c.args.query.now.plan).nodes.items = length-map (arc_value c.args.query.now.plan).nodes.items node_of in
-    let end : length c.nodes-operator-end.result.now ≡ length (arc_value c.args.query.now.plan).nodes.items = ap (λ ns. length ns) c.nodes-operator-end.ensures in
+    let many : length (query_of c.args.query.now).nodes ≡ length c.args.query.now.known.value.plan.nodes.items = length-map c.args.query.now.known.value.plan.nodes.items node_of in
+    let end : length c.nodes-operator-end.result.now ≡ length c.args.query.now.known.value.plan.nodes.items = ap (λ ns. length ns) c.nodes-operator-end.ensures in
     windows_end (query_of c.args.query.now) c.args.number c.loop-operator.operator c.loop-operator.readers.items _ (omega (arith, many, end, c.loop-operator-test.false)) c.loop-operator.invariant.come

@@ -1,6 +1,7 @@
 //! Keeps a query as it was registered.
-ghost use Rattle.std.specs.Prelude.{◌≡◌, ◌≤◌, [], IfOk, MatchOption, box_value, false, map};
-ghost use Rattle.std.specs.Prelude.{string_bytes, true};
+ghost use Rattle.std.specs.Prelude.{◌≡◌, ◌≤◌, [], IfOk, Some, box_value, false, map};
+ghost use Rattle.std.specs.Prelude.{string_bytes};
+ghost use Rattle.std.specs.Option.{option_map};
 ghost use Rattle.values.specs.Resolved.{resolved_of};
 ghost use Rattle.plan.specs.Paths.{plan_slopes};
 ghost use Rattle.plan.specs.Views.{nodes_of};
@@ -66,7 +67,7 @@ pub(crate) struct Registration {
     /// Estimates the work of its next drain. Contracts do not see it.
     pub(crate) pace: Pace,
     ghost early: { first ≤ all_instants },
-    ghost kept: { MatchOption details (is_dropped ≡ true) (λ d. box_value d ≡ known.value) },
+    ghost kept: { is_dropped ≡ false → option_map box_value details ≡ Some known.value },
 }
 
 impl Registration {

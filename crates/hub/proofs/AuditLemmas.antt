@@ -9,7 +9,7 @@ use Rattle.std.proofs.lemmas.List.Sums.{count_by-le-length, sum_by-cons}
 use Rattle.histories.specs.Histories.{Entry, Told, own}
 use Rattle.hub.specs.Audits.{IsAccounted, alone}
 use Rattle.hub.specs.Ledgers.{Agrees, IsLedger, PlainAccount, PlainLedger, due_at, numbers_of, times_due}
-use Rattle.hub.specs.Seats.{IsAudited, PlainSeat, count_below, held, receipts_from, times_told, told_at, unsettled}
+use Rattle.hub.specs.Seats.{IsAudited, PlainSeat, by_number, held, receipts_from, times_told, told_at, unsettled}
 use Rattle.hub.specs.declared.settled.Settled.{Settled}
 use Rattle.hub.proofs.PlaceLemmas.{one_if, told_below_more, below_nought}
 use Rattle.hub.proofs.Places.{told_below}
@@ -152,16 +152,17 @@ estranged_not l first es ss count ledger is a =
     let each : (k : ℕ) → k < length l.accounts → many_of k ss ≡ 1 = λ k lt. a.each k (omega (arith, lt, is)) in
     omega (arith, all_told l first es ledger ss each a.agree, a.total)
 
-counts_few : (first : ℕ) (ss : List PlainSeat) → sum_by (λ (s : PlainSeat). count_below first s.receipts) ss + sum_by (λ (s : PlainSeat). s.settled.count) ss ≤ sum_by (λ (s : PlainSeat). s.settled.count + length s.receipts) ss
-counts_few first [] = omega arith
-counts_few first (s ∷ ss) =
+counts_few : (l : PlainLedger) (first : ℕ) (es : List Entry) → IsLedger l first es → (ss : List PlainSeat) → All (Agrees l first es) ss → sum_by (by_number first) ss ≤ sum_by (λ (s : PlainSeat). s.settled.count + length s.receipts) ss
+counts_few l first es ledger [] h = omega arith
+counts_few l first es ledger (s ∷ ss) h =
+    let account = ledger.each s.number (account_of s) (All-head (Agrees l first es) s ss h).account in
     omega (
       arith,
-      sum_by-cons (λ (s : PlainSeat). count_below first s.receipts) s ss,
-      sum_by-cons (λ (s : PlainSeat). s.settled.count) s ss,
+      sum_by-cons (by_number first) s ss,
       sum_by-cons (λ (s : PlainSeat). s.settled.count + length s.receipts) s ss,
       count_by-le-length (λ (r : Told). nat_lt r.number first) s.receipts,
-      counts_few first ss,
+      account.by_number,
+      counts_few l first es ledger ss (All-tail (Agrees l first es) s ss h),
     )
 
 -- of a hub that is accounted for
@@ -172,11 +173,11 @@ module _ (l : PlainLedger) (ss : List PlainSeat) (count first : ℕ) (es : List 
   pub settled_by_all : l.settled ≡ sum_by (λ (s : PlainSeat). s.settled.count) ss
   settled_by_all = sym (all_settled l first es ledger ss each_here a.agree)
 
-  pub alone_fits : l.by_number + sum_by (λ (s : PlainSeat). count_below first s.receipts) ss ≤ first + length es
-  alone_fits = omega (arith, ledger.by_number, settled_by_all, counts_few first ss, a.total)
+  pub alone_fits : alone first ss ≤ first + length es
+  alone_fits = omega (arith, counts_few l first es ledger ss a.agree, a.total)
 
-settled_is : (c c' u u' : ℕ) → c ≡ c' → u ≡ u' → (let s : Settled = record { count = c; until = u } in s) ≡ record { count = c'; until = u' }
-settled_is c c' u u' h t = rw (h, t) refl
+settled_is : (c c' u u' n n' : ℕ) → c ≡ c' → u ≡ u' → n ≡ n' → (let s : Settled = record { count = c; until = u; by_number = n } in s) ≡ record { count = c'; until = u'; by_number = n' }
+settled_is c c' u u' n n' h t r = rw (h, t, r) refl
 
 none_settled : (l : PlainLedger) (first : ℕ) (es : List Entry) → IsLedger l first es → (ss : List PlainSeat) → All (Agrees l first es) ss → sum_by (λ (s : PlainSeat). s.settled.count) ss ≡ 0 → All (λ (s : PlainSeat). s.settled ≡ unsettled) ss
 none_settled l first es ledger [] h t = All-nil (λ (s : PlainSeat). s.settled ≡ unsettled)
@@ -184,7 +185,7 @@ none_settled l first es ledger (s ∷ ss) h t =
     let split = sum_by-cons (λ (s : PlainSeat). s.settled.count) s ss in
     let none : s.settled.count ≡ 0 = omega (arith, t, split) in
     let account = ledger.each s.number (account_of s) (All-head (Agrees l first es) s ss h).account in
-    All-cons (λ (s : PlainSeat). s.settled ≡ unsettled) s ss (settled_is s.settled.count 0 s.settled.until 0 none (account.none none)) (none_settled l first es ledger ss (All-tail (Agrees l first es) s ss h) (omega (arith, t, split)))
+    All-cons (λ (s : PlainSeat). s.settled ≡ unsettled) s ss (settled_is s.settled.count 0 s.settled.until 0 s.settled.by_number 0 none (account.none none) (omega (arith, none, account.by_number))) (none_settled l first es ledger ss (All-tail (Agrees l first es) s ss h) (omega (arith, t, split)))
 
 -- ---- where nothing was settled, each number is told once
 
@@ -277,5 +278,5 @@ audited_as_ever l ss count first es ledger is a none =
     unsettled_audited l ss count first es a (none_settled l first es ledger ss a.agree (sym (settled_by_all l ss count first es ledger is a) ∙ none))
 
 -- what is counted, as the code passes through it
-pub alone_is : (r : ℕ) (l l' : PlainLedger) (xs ss : List PlainSeat) (f f' : ℕ) → r ≡ l.by_number + sum_by (λ (s : PlainSeat). count_below f s.receipts) xs → xs ≡ ss → l ≡ l' → f ≡ f' → r ≡ alone l' ss f'
-alone_is r l l' xs ss f f' is seats ledger first = is ∙ ap (λ x. l.by_number + sum_by (λ (s : PlainSeat). count_below f s.receipts) x) seats ∙ ap (λ x. alone x ss f) ledger ∙ ap (λ (k : ℕ). alone l' ss k) first
+pub alone_is : (r : ℕ) (xs ss : List PlainSeat) (f f' : ℕ) → r ≡ alone f xs → xs ≡ ss → f ≡ f' → r ≡ alone f' ss
+alone_is r xs ss f f' is seats first = is ∙ ap (alone f) seats ∙ ap (λ (k : ℕ). alone k ss) first

@@ -9,7 +9,7 @@ use Rattle.std.proofs.lemmas.List.Sums.{count_by-le-length, sum_by-cons}
 use Rattle.std.proofs.lemmas.Option.{get_or_from_slice_get, slice_get_within}
 use Rattle.histories.specs.Histories.{Entry, Told, own}
 use Rattle.hub.specs.Ledgers.{Agrees, IsAccount, IsLedger, PlainAccount, PlainLedger, cleared, cleared_of, due_at, fresh, noted, noted_at, numbers_from, numbers_of, opened_for, settled_of, times_due}
-use Rattle.hub.specs.Seats.{PlainSeat, held, own_reach, receipts_from, told_at}
+use Rattle.hub.specs.Seats.{PlainSeat, by_number, held, own_reach, receipts_from, told_at}
 use Rattle.hub.specs.declared.settled.Settled.{Settled}
 use Rattle.hub.proofs.PlaceLemmas.{from_passes, one_if}
 use Rattle.hub.proofs.SettleLemmas.{from_begins_with, some_is}
@@ -119,6 +119,7 @@ module _ (first : ℕ) (es : List Entry) (e : Entry) where
         due = h.due ∙ ap (λ t. numbers_of (receipts_from a.settled.until t)) (sym same);
         until = omega (arith, h.until, longer);
         none = h.none;
+        by_number = h.by_number;
       }
 
   -- and of the seat that called
@@ -136,6 +137,7 @@ module _ (first : ℕ) (es : List Entry) (e : Entry) where
         due = numbers_append first a.due (n ∷ []) ∙ ap (λ t. t ++ numbers_from first (n ∷ [])) h.due ∙ ap (λ t. numbers_of (receipts_from a.settled.until (own seat first es)) ++ t) (numbers_one first n (omega arith)) ∙ sym numbers;
         until = omega (arith, h.until, longer);
         none = h.none;
+        by_number = h.by_number;
       }
 
 length_one : (xs : List ℕ) (k : ℕ) → length (xs ++ k ∷ []) ≡ length xs + 1
@@ -167,7 +169,6 @@ module _ (l : PlainLedger) (first : ℕ) (es : List Entry) (e : Entry) (h : IsLe
             omega (arith, due k, h.others k (omega (arith, le, more)), is_nought (n == k) other);
         settled = omega (arith, sum_set (λ (x : PlainAccount). x.settled.count) l.accounts e.seat a b at, h.settled);
         total = omega (arith, sum_set (λ (x : PlainAccount). length x.due) l.accounts e.seat a b at, h.total, more, length_one a.due n);
-        by_number = h.by_number;
       }
 
   strange : slice_get l.accounts e.seat ≡ None → IsLedger (noted_at l e.seat (first + length es) None) first (es ++ e ∷ [])
@@ -179,7 +180,6 @@ module _ (l : PlainLedger) (first : ℕ) (es : List Entry) (e : Entry) (h : IsLe
         others = λ k le. h.others k (omega (arith, le, more));
         settled = h.settled;
         total = omega (arith, h.total, more);
-        by_number = h.by_number;
       }
 
   by_cases : (o : Option PlainAccount) → slice_get l.accounts e.seat ≡ o → IsLedger (noted_at l e.seat (first + length es) o) first (es ++ e ∷ [])
@@ -258,19 +258,20 @@ module _ (l : PlainLedger) (first : ℕ) (es : List Entry) (h : IsLedger l first
   pub reach_within : own_reach s ≤ first + length es
   reach_within = omega (arith, within, own_account_is.until)
 
-  ended : IsAccount s.number first es (record { settled = settled_of s; due = [] })
+  ended : IsAccount s.number first es (record { settled = settled_of first s; due = [] })
   ended =
       let few : held (receipts_from s.settled.until (own s.number first es)) ≤ own_reach s = omega (arith, ap held agrees.told, held_from first s.receipts) in
       record {
         due = sym (ap numbers_of (none_left s.settled.until (own_reach s) (own s.number first es) (omega arith) few));
         until = reach_within;
         none = λ nought. (let empty : held s.receipts ≡ 0 = held_none s.receipts (omega (arith, nought)) in let before : s.settled.until ≡ 0 = own_account_is.none (omega (arith, nought)) in omega (arith, empty, before));
+        by_number = omega (arith, own_account_is.by_number, count_by-le-length (λ (r : Told). nat_lt r.number first) s.receipts);
       }
 
   pub settled_kept : IsLedger (cleared_of l first s) first es
   settled_kept =
       let a : PlainAccount = record { settled = s.settled; due = numbers_of s.receipts } in
-      let b : PlainAccount = record { settled = settled_of s; due = [] } in
+      let b : PlainAccount = record { settled = settled_of first s; due = [] } in
       let due : (k : ℕ) → times_due k (set l.accounts s.number b) + due_at k (numbers_of s.receipts) ≡ times_due k l.accounts = λ k. omega (arith, sum_set (λ (x : PlainAccount). due_at k x.due) l.accounts s.number a b agrees.account) in
       let counts = sum_set (λ (x : PlainAccount). x.settled.count) l.accounts s.number a b agrees.account in
       let dues = sum_set (λ (x : PlainAccount). length x.due) l.accounts s.number a b agrees.account in
@@ -284,7 +285,6 @@ module _ (l : PlainLedger) (first : ℕ) (es : List Entry) (h : IsLedger l first
         others = λ k le. omega (arith, due k, h.others k le);
         settled = omega (arith, counts, h.settled);
         total = omega (arith, dues, h.total, many_numbers);
-        by_number = omega (arith, h.by_number, count_by-le-length (λ (r : Told). nat_lt r.number first) s.receipts);
       }
 
   -- what the counters count fits
@@ -294,17 +294,20 @@ module _ (l : PlainLedger) (first : ℕ) (es : List Entry) (h : IsLedger l first
   pub count_fits : s.settled.count + length s.receipts ≤ first + length es
   count_fits = omega (arith, settled_fits, h.settled, one_of (λ (x : PlainAccount). x.settled.count) l.accounts s.number (record { settled = s.settled; due = numbers_of s.receipts }) agrees.account)
 
+  pub by_number_fits : by_number first s ≤ first + length es
+  by_number_fits = omega (arith, count_fits, own_account_is.by_number, count_by-le-length (λ (r : Told). nat_lt r.number first) s.receipts)
+
   pub seat_within : s.number < length l.accounts
   seat_within = slice_get_within l.accounts s.number (record { settled = s.settled; due = numbers_of s.receipts }) agrees.account
 
-pub cleared_is : (new l : PlainLedger) (n n' : ℕ) (t t' : Settled) (c c' b b' : ℕ) → new ≡ cleared l n t c b → n ≡ n' → t ≡ t' → c ≡ c' → b ≡ b' → new ≡ cleared l n' t' c' b'
-cleared_is new l n n' t t' c c' b b' is p q r s = is ∙ rw (p, q, r, s) refl
+pub cleared_is : (new l : PlainLedger) (n n' : ℕ) (t t' : Settled) (c c' : ℕ) → new ≡ cleared l n t c → n ≡ n' → t ≡ t' → c ≡ c' → new ≡ cleared l n' t' c'
+cleared_is new l n n' t t' c c' is p q r = is ∙ rw (p, q, r) refl
 
-pub cleared_many : (new l : PlainLedger) (n : ℕ) (t : Settled) (c b many : ℕ) → new ≡ cleared l n t c b → length l.accounts ≡ many → length new.accounts ≡ many
-cleared_many new l n t c b many is h = ap (λ (x : PlainLedger). length x.accounts) is ∙ length-set l.accounts n (record { settled = t; due = [] }) ∙ h
+pub cleared_many : (new l : PlainLedger) (n : ℕ) (t : Settled) (c many : ℕ) → new ≡ cleared l n t c → length l.accounts ≡ many → length new.accounts ≡ many
+cleared_many new l n t c many is h = ap (λ (x : PlainLedger). length x.accounts) is ∙ length-set l.accounts n (record { settled = t; due = [] }) ∙ h
 
-pub settled_as : (c c' u u' : ℕ) → c ≡ c' → u ≡ u' → (let s : Settled = record { count = c; until = u } in s) ≡ record { count = c'; until = u' }
-settled_as c c' u u' h t = rw (h, t) refl
+pub settled_as : (c c' u u' n n' : ℕ) → c ≡ c' → u ≡ u' → n ≡ n' → (let s : Settled = record { count = c; until = u; by_number = n } in s) ≡ record { count = c'; until = u'; by_number = n' }
+settled_as c c' u u' n n' h t r = rw (h, t, r) refl
 
 -- ---- A FORGET
 
@@ -328,12 +331,12 @@ forgotten_kept l first n es is h = record {
         due = none_due n a.due (λ k le. omega (arith, one_of (λ (x : PlainAccount). due_at k x.due) l.accounts i a at, h.others k (omega (arith, le, is))));
         until = omega (arith, account.until, is);
         none = account.none;
+        by_number = account.by_number;
       };
   once = h.once;
   others = λ k le. h.others k (omega (arith, le, is));
   settled = h.settled;
   total = omega (arith, h.total, is);
-  by_number = h.by_number;
 }
 
 -- ---- A HUB THAT WAS JUST OPENED
@@ -351,10 +354,9 @@ sum_fresh F n h = sum_by-replicate F n fresh ∙ nought_times n (F fresh) h
 
 pub fresh_kept : (seats : ℕ) → IsLedger (opened_for seats) 0 []
 fresh_kept seats = record {
-  each = λ i a at. subst (λ (x : PlainAccount). IsAccount i 0 [] x) (sym (fresh_at seats i a at)) (record { due = refl; until = omega arith; none = λ is. refl });
+  each = λ i a at. subst (λ (x : PlainAccount). IsAccount i 0 [] x) (sym (fresh_at seats i a at)) (record { due = refl; until = omega arith; none = λ is. refl; by_number = omega arith });
   once = λ n. omega (arith, sum_fresh (λ (x : PlainAccount). due_at n x.due) seats refl);
   others = λ n le. sum_fresh (λ (x : PlainAccount). due_at n x.due) seats refl;
   settled = sum_fresh (λ (x : PlainAccount). x.settled.count) seats refl;
   total = omega (arith, sum_fresh (λ (x : PlainAccount). length x.due) seats refl);
-  by_number = omega arith;
 }

@@ -9,8 +9,8 @@ use Rattle.hub.specs.Ledgers.{PlainAccount, PlainLedger, account_in, cleared, no
 use Rattle.hub.specs.declared.ledger.Account.{Account}
 use Rattle.hub.specs.declared.settled.Settled.{Settled}
 
-abbrev pub plain : List PlainAccount → ℕ → ℕ → ℕ → PlainLedger
-plain accounts strangers settled by_number = record { accounts = accounts; strangers = strangers; settled = settled; by_number = by_number }
+abbrev pub plain : List PlainAccount → ℕ → ℕ → PlainLedger
+plain accounts strangers settled = record { accounts = accounts; strangers = strangers; settled = settled }
 
 -- the account at a place that there is
 pub seen_at : (items : List Account) (i : ℕ) (a : Account) → i < length items → a ≡ get_or items i a → slice_get (map account_in items) i ≡ Some (account_in a)
@@ -19,32 +19,32 @@ seen_at items i a lt is = slice_get-map account_in items i ∙ ap (option_map ac
 pub none_at : (items : List Account) (i : ℕ) → length items ≤ i → slice_get (map account_in items) i ≡ None
 none_at items i le = slice_get-map account_in items i ∙ ap (option_map account_in) (slice_get_past items i le)
 
-module _ (items : List Account) (i : ℕ) (a : Account) (lt : i < length items) (is : a ≡ get_or items i a) (strangers settled by_number : ℕ) where
+module _ (items : List Account) (i : ℕ) (a : Account) (lt : i < length items) (is : a ≡ get_or items i a) (strangers settled : ℕ) where
   -- its list of numbers has more room
-  pub roomier : (v : Vec ℕ Global) → v.items ≡ a.due.items → plain (map account_in (set items i (record { settled = a.settled; due = v }))) strangers settled by_number ≡ plain (map account_in items) strangers settled by_number
+  pub roomier : (v : Vec ℕ Global) → v.items ≡ a.due.items → plain (map account_in (set items i (record { settled = a.settled; due = v }))) strangers settled ≡ plain (map account_in items) strangers settled
   roomier v same =
       let view : account_in (record { settled = a.settled; due = v }) ≡ account_in (get_or items i a) = ap (λ ns. record { settled = a.settled; due = ns }) same ∙ ap account_in is in
       let here : map account_in (set items i (record { settled = a.settled; due = v })) ≡ map account_in items =
       map-set account_in items i _ ∙ ap (set (map account_in items) i) view ∙ sym (map-set account_in items i (get_or items i a)) ∙ ap (map account_in) (set-get_or items i a) in
-      ap (λ x. plain x strangers settled by_number) here
+      ap (λ x. plain x strangers settled) here
 
   -- a number is pushed
-  pub pushed : (v : Vec ℕ Global) (n : ℕ) → v.items ≡ a.due.items ++ n ∷ [] → plain (map account_in (set items i (record { settled = a.settled; due = v }))) strangers settled by_number ≡ noted (plain (map account_in items) strangers settled by_number) i n
+  pub pushed : (v : Vec ℕ Global) (n : ℕ) → v.items ≡ a.due.items ++ n ∷ [] → plain (map account_in (set items i (record { settled = a.settled; due = v }))) strangers settled ≡ noted (plain (map account_in items) strangers settled) i n
   pushed v n same =
       let view : account_in (record { settled = a.settled; due = v }) ≡ record { settled = a.settled; due = a.due.items ++ n ∷ [] } = ap (λ ns. record { settled = a.settled; due = ns }) same in
       let here : map account_in (set items i (record { settled = a.settled; due = v })) ≡ set (map account_in items) i (record { settled = a.settled; due = a.due.items ++ n ∷ [] }) = map-set account_in items i _ ∙ ap (set (map account_in items) i) view in
-      ap (λ x. plain x strangers settled by_number) here ∙ sym (ap (noted_at (plain (map account_in items) strangers settled by_number) i n) (seen_at items i a lt is))
+      ap (λ x. plain x strangers settled) here ∙ sym (ap (noted_at (plain (map account_in items) strangers settled) i n) (seen_at items i a lt is))
 
 -- the seat is of another hub
-pub estranged : (items : List Account) (i n strangers settled by_number : ℕ) → length items ≤ i → plain (map account_in items) (strangers + 1) settled by_number ≡ noted (plain (map account_in items) strangers settled by_number) i n
-estranged items i n strangers settled by_number le = sym (ap (noted_at (plain (map account_in items) strangers settled by_number) i n) (none_at items i le))
+pub estranged : (items : List Account) (i n strangers settled : ℕ) → length items ≤ i → plain (map account_in items) (strangers + 1) settled ≡ noted (plain (map account_in items) strangers settled) i n
+estranged items i n strangers settled le = sym (ap (noted_at (plain (map account_in items) strangers settled) i n) (none_at items i le))
 
 -- nothing is due any more
-pub emptied : (items : List Account) (i : ℕ) (s : Settled) (v : Vec ℕ Global) (strangers settled by_number count more : ℕ) → v.items ≡ []
-    → plain (map account_in (set items i (record { settled = s; due = v }))) strangers (settled + count) (by_number + more) ≡ cleared (plain (map account_in items) strangers settled by_number) i s count more
-emptied items i s v strangers settled by_number count more none =
+pub emptied : (items : List Account) (i : ℕ) (s : Settled) (v : Vec ℕ Global) (strangers settled count : ℕ) → v.items ≡ []
+    → plain (map account_in (set items i (record { settled = s; due = v }))) strangers (settled + count) ≡ cleared (plain (map account_in items) strangers settled) i s count
+emptied items i s v strangers settled count none =
     let view : account_in (record { settled = s; due = v }) ≡ record { settled = s; due = [] } = ap (λ ns. record { settled = s; due = ns }) none in
-    ap (λ x. plain x strangers (settled + count) (by_number + more)) (map-set account_in items i _ ∙ ap (set (map account_in items) i) view)
+    ap (λ x. plain x strangers (settled + count)) (map-set account_in items i _ ∙ ap (set (map account_in items) i) view)
 
 some_is : (a b : Account) → Some a ≡ Some b → a ≡ b
 some_is a b h = cc

@@ -3,7 +3,7 @@ use Rattle.std.specs.Prelude.{◌≡◌, ◌==◌, ℕ, ◌+◌, ◌≤◌, ◌<
 use Rattle.std.specs.List.{sum_by}
 use Rattle.histories.specs.Histories.{Entry}
 use Rattle.hub.specs.Ledgers.{Agrees, PlainLedger}
-use Rattle.hub.specs.Seats.{PlainSeat, count_below, times_told}
+use Rattle.hub.specs.Seats.{PlainSeat, by_number, times_told}
 
 -- EVERY ACCEPTED CALL IS ACCOUNTED FOR, where the history begins with the entry of the number
 -- `first`. Each number of a seat is there once, and every entry is of one of them. Each seat agrees
@@ -20,10 +20,6 @@ pub record IsAccounted (l : PlainLedger) (seats : List PlainSeat) (count first :
   pub total : sum_by (λ (s : PlainSeat). s.settled.count + length s.receipts) seats
       ≡ first + length entries
 
--- how many receipts of all seats have numbers below n
-abbrev pub all_below : ℕ → List PlainSeat → ℕ
-all_below n seats = sum_by (λ (s : PlainSeat). count_below n s.receipts) seats
-
--- HOW MANY were compared only by their numbers: before, and now
-abbrev pub alone : PlainLedger → List PlainSeat → ℕ → ℕ
-alone l seats first = l.by_number + all_below first seats
+-- HOW MANY of all seats' calls are compared only by their numbers
+abbrev pub alone : ℕ → List PlainSeat → ℕ
+alone first seats = sum_by (by_number first) seats

@@ -4,7 +4,7 @@ use Rattle.std.specs.Prelude.{Option, None, Some, replicate, set, slice_get, if�
 use Rattle.std.specs.Vec.{vec_capacity, vec_len}
 use Rattle.std.specs.List.{sum_by}
 use Rattle.histories.specs.Histories.{Entry, Told, own}
-use Rattle.hub.specs.Seats.{PlainSeat, count_below, own_reach, receipts_from, unsettled}
+use Rattle.hub.specs.Seats.{PlainSeat, by_number, own_reach, receipts_from, unsettled}
 use Rattle.hub.specs.declared.ledger.Account.{Account}
 use Rattle.hub.specs.declared.ledger.Ledger.{Ledger}
 use Rattle.hub.specs.declared.settled.Settled.{Settled}
@@ -18,12 +18,11 @@ abbrev pub account_in : Account → PlainAccount
 account_in a = record { settled = a.settled; due = a.due.items }
 
 -- of all seats, by their numbers; how many calls of other hubs' seats were accepted;
--- how many calls are settled, and how many of these only by their numbers
+-- how many calls are settled
 pub record PlainLedger : Type 0 where
   pub accounts : List PlainAccount
   pub strangers : ℕ
   pub settled : ℕ
-  pub by_number : ℕ
 
 -- not unfolded, so that what is said of a ledger stays short
 unfoldable pub ledger_in : Ledger → PlainLedger
@@ -31,7 +30,6 @@ ledger_in l = record {
   accounts = map account_in l.accounts.items;
   strangers = l.strangers;
   settled = l.settled;
-  by_number = l.by_number;
 }
 
 -- of a seat that was just opened
@@ -44,7 +42,6 @@ opened_for seats = record {
   accounts = replicate seats fresh;
   strangers = 0;
   settled = 0;
-  by_number = 0;
 }
 
 -- there is room for one number more of a seat
@@ -61,23 +58,26 @@ noted_at l seat n (Some a) =
 abbrev pub noted : PlainLedger → ℕ → ℕ → PlainLedger
 noted l seat n = noted_at l seat n (slice_get l.accounts seat)
 
--- WHAT IS SETTLED of a seat that settles: all that was, and what it holds
-abbrev pub settled_of : PlainSeat → Settled
-settled_of s = record { count = s.settled.count + length s.receipts; until = own_reach s }
+-- WHAT IS SETTLED of a seat that settles: all that was, and what it holds.
+-- The entries of numbers below `first` are gone
+abbrev pub settled_of : ℕ → PlainSeat → Settled
+settled_of first s = record {
+  count = s.settled.count + length s.receipts;
+  until = own_reach s;
+  by_number = by_number first s;
+}
 
--- so much more is settled of a seat, some of it only by numbers, and nothing is due
-abbrev pub cleared : PlainLedger → ℕ → Settled → ℕ → ℕ → PlainLedger
-cleared l seat s count by_number = record {
+-- so much more is settled of a seat, and nothing is due
+abbrev pub cleared : PlainLedger → ℕ → Settled → ℕ → PlainLedger
+cleared l seat s count = record {
   accounts = set l.accounts seat (record { settled = s; due = [] });
   strangers = l.strangers;
   settled = l.settled + count;
-  by_number = l.by_number + by_number;
 }
 
 -- A SEAT SETTLES what it holds: the entries of numbers below `first` are gone
 abbrev pub cleared_of : PlainLedger → ℕ → PlainSeat → PlainLedger
-cleared_of l first s =
-    cleared l s.number (settled_of s) (length s.receipts) (count_below first s.receipts)
+cleared_of l first s = cleared l s.number (settled_of first s) (length s.receipts)
 
 -- the numbers from the n-th on
 abbrev pub numbers_from : ℕ → List ℕ → List ℕ
@@ -104,6 +104,7 @@ pub record IsAccount (seat first : ℕ) (entries : List Entry) (a : PlainAccount
       ≡ numbers_of (receipts_from a.settled.until (own seat first entries))
   pub until : a.settled.until ≤ first + length entries
   pub none : a.settled.count ≡ 0 → a.settled.until ≡ 0
+  pub by_number : a.settled.by_number ≤ a.settled.count
 
 -- THE LEDGER OF A HUB. Each number is due once at most, and none that was not given; all that
 -- were ever accepted are settled, due or of strangers
@@ -115,7 +116,6 @@ pub record IsLedger (l : PlainLedger) (first : ℕ) (entries : List Entry) : Typ
   pub settled : sum_by (λ (a : PlainAccount). a.settled.count) l.accounts ≡ l.settled
   pub total : l.settled + sum_by (λ (a : PlainAccount). length a.due) l.accounts + l.strangers
       ≡ first + length entries
-  pub by_number : l.by_number ≤ l.settled
 
 -- A SEAT AND THE HUB TELL ALIKE. Both have the same settled calls, and what is due are the numbers
 -- of the seat's receipts. From the first entry on these are just those of its entries that are not

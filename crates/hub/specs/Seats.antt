@@ -6,7 +6,7 @@ use Rattle.hub.specs.declared.settled.Settled.{Settled}
 
 -- NO CALL IS SETTLED
 abbrev pub unsettled : Settled
-unsettled = record { count = 0; until = 0 }
+unsettled = record { count = 0; until = 0; by_number = 0 }
 
 -- a seat: its number, the receipts of its own calls that are not settled, which of its
 -- calls are settled, and one more than the greatest number that it learnt of other
@@ -46,6 +46,11 @@ receipts_from n (r ∷ rs) = if nat_le n r.number then r ∷ receipts_from n rs 
 -- how many of the receipts have numbers below n
 abbrev pub count_below : ℕ → List Told → ℕ
 count_below n rs = count_by (λ (r : Told). nat_lt r.number n) rs
+
+-- HOW MANY of a seat's calls are compared only by their numbers, where the history
+-- begins with the entry of the number `first`: before, and now
+abbrev pub by_number : ℕ → PlainSeat → ℕ
+by_number first s = s.settled.by_number + count_below first s.receipts
 
 -- how many of the receipts have the number n
 abbrev pub told_at : ℕ → List Told → ℕ

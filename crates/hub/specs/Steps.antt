@@ -170,7 +170,7 @@ ForgetsAfter settled false values new = new ≡ settled
 pub record HasSettled (old : PlainLocked) (seat : PlainSeat) (new : PlainLocked)
     (seat' : PlainSeat) : Type 0 where
   pub agrees : Agrees old.ledger old.first old.history seat
-  pub emptied : seat' ≡ record seat { receipts = []; settled = settled_of seat }
+  pub emptied : seat' ≡ record seat { receipts = []; settled = settled_of old.first seat }
   pub noted : new ≡ record old { ledger = cleared_of old.ledger old.first seat }
 
 -- ONE THAT DIFFERS keeps its receipts, and nothing changes

@@ -2,7 +2,7 @@
 ghost use Rattle.std.specs.Prelude.{◌≡◌, ◌<◌, ◌+◌, ◌^◌, ◌↔◌, ℕ, IsTrue, All, List, count_by, ◌==◌};
 ghost use Rattle.std.specs.Prelude.{length};
 ghost use Rattle.histories.specs.Histories as histories;
-ghost use Rattle.hub.specs.Audits.{IsAccounted, all_below};
+ghost use Rattle.hub.specs.Audits.{IsAccounted, alone};
 ghost use Rattle.hub.specs.Ledgers.{Agrees, IsLedger, PlainLedger, ledger_in, numbers_of};
 ghost use Rattle.hub.specs.Seats.{IsAudited, PlainSeat, unsettled};
 
@@ -111,14 +111,15 @@ pub(crate) fn is_accounted(
     all_agree(ledger, history, first, seats)
 }
 
-/// Counts the receipts of numbers below `first`, of all seats, and adds them to `before`.
-pub(crate) fn count_alone(seats: &[Seat], first: u64, before: u64) -> u64
-    requires { before + all_below first seats.now < 2 ^ 64 }
-    ensures { result ≡ before + all_below first seats.now }
+/// Counts the calls that were compared only by their numbers, of all seats: those that were settled
+/// so, and the receipts of numbers below `first`.
+pub(crate) fn count_alone(seats: &[Seat], first: u64) -> u64
+    requires { alone first seats.now < 2 ^ 64 }
+    ensures { result ≡ alone first seats.now }
 {
-    let mut count = before;
+    let mut count = 0;
     for seat in seats {
-        count += seat.count_below(first);
+        count += seat.count_by_number(first);
     }
     count
 }

@@ -121,8 +121,8 @@ impl Hub {
         ensures opens { IfOk result (λ c. OpensAt c.first (opening_in c.opening)) }
         ensures reached { IfOk result (λ c. IsReachedBy c.first (opening_in c.opening)) }
         ensures ok { IfOk result (λ c. (l : PlainLedger)
-            × IsAccounted l seats.items self c.first c.entries.items
-            × (c.by_number ≡ alone l seats.items c.first)) }
+            × IsAccounted l seats.items self c.first c.entries.items) }
+        ensures by_number { IfOk result (λ c. c.by_number ≡ alone c.first seats.items) }
         ensures unsettled { IfOk result (λ c. c.settled ≡ 0
             → IsAudited seats.items self c.first c.entries.items) }
         ensures settled { IfOk result (λ c.

@@ -24,8 +24,6 @@ pub(crate) struct Ledger {
     pub(crate) strangers: u64,
     /// Counts the calls that are settled.
     pub(crate) settled: u64,
-    /// Counts those of them whose entries were forgotten before: only their numbers were compared.
-    pub(crate) by_number: u64,
 }
 
 impl Account {
@@ -54,7 +52,6 @@ impl Ledger {
             accounts,
             strangers: 0,
             settled: 0,
-            by_number: 0,
         })
     }
 
@@ -88,19 +85,10 @@ impl Ledger {
 
     /// Notes that a seat settled, and what is settled of it now. Takes no memory.
     #[tactic(auto, unfolding(crate::specs::Ledgers::ledger_in))]
-    pub(crate) fn settle(
-        &mut self,
-        alloc: Global,
-        seat: u64,
-        settled: Settled,
-        count: u64,
-        by_number: u64,
-    )
+    pub(crate) fn settle(&mut self, alloc: Global, seat: u64, settled: Settled, count: u64)
         requires seat { seat < length (ledger_in self.old).accounts }
         requires count { (ledger_in self.old).settled + count < 2 ^ 64 }
-        requires by_number { (ledger_in self.old).by_number + by_number < 2 ^ 64 }
-        ensures { ledger_in self.new
-            ≡ cleared (ledger_in self.old) seat settled count by_number }
+        ensures { ledger_in self.new ≡ cleared (ledger_in self.old) seat settled count }
     {
         let account = Account {
             settled,
@@ -108,6 +96,5 @@ impl Ledger {
         };
         self.accounts[seat as usize] = account;
         self.settled += count;
-        self.by_number += by_number;
     }
 }

@@ -233,8 +233,7 @@ impl Locked {
             → IsAudited seats.items self.seats c.first c.entries.items) }
         ensures settled { IfOk result (λ c.
             c.settled ≡ sum_by (λ (s : PlainSeat). s.settled.count) seats.items) }
-        ensures by_number { IfOk result (λ c.
-            c.by_number ≡ alone self.ledger seats.items self.first) }
+        ensures by_number { IfOk result (λ c. c.by_number ≡ alone self.first seats.items) }
         ensures err { IfErr result (λ p. (p.0 ≡ self) × (p.1 ≡ seats)
             × (¬ (IsAccounted self.ledger seats.items self.seats self.first self.history))) }
     {
@@ -247,7 +246,7 @@ impl Locked {
         ) {
             return Err((self, seats));
         }
-        let by_number = count_alone(seats.as_slice(), self.first, self.ledger.by_number);
+        let by_number = count_alone(seats.as_slice(), self.first);
         let Locked {
             alloc: _,
             engine: _,

@@ -1,5 +1,6 @@
 //! Keeps what a client's seat holds and knows.
-ghost use Rattle.std.specs.Prelude.{ℕ, All, ◌⊎◌, ◌≤◌, ◌<◌, ◌+◌, ◌≡◌, length, max, slice_get, Some};
+ghost use Rattle.std.specs.Prelude.{ℕ, All, ◌⊎◌, ◌≤◌, ◌<◌, ◌+◌, ◌≡◌, ◌^◌, length, max};
+ghost use Rattle.std.specs.Prelude.{slice_get, Some};
 ghost use Rattle.histories.specs.Histories.{Told};
 ghost use Rattle.hub.specs.Seats.{IsRisingFrom, PlainSeat, reach};
 
@@ -42,7 +43,8 @@ impl Model for Seat {
 }
 
 impl Seat {
-    ghost use Rattle.hub.specs.Seats.{IsRisingFrom, PlainSeat, count_below, held, reach, opened};
+    ghost use Rattle.hub.specs.Seats.{IsRisingFrom, PlainSeat, by_number, count_below, held, opened};
+    ghost use Rattle.hub.specs.Seats.{reach};
 
     /// Makes a seat with this number and no receipt. Takes no memory.
     pub(crate) fn new(alloc: Global, number: u64) -> Seat
@@ -86,8 +88,17 @@ impl Seat {
         self.receipts.as_slice()
     }
 
+    // Counts its calls that are compared only by their numbers, where the first entry has the number
+    // `first`: those that were, and its receipts of numbers below that.
+    pub(crate) fn count_by_number(&self, first: u64) -> u64
+        requires { by_number first self.now < 2 ^ 64 }
+        ensures { result ≡ by_number first self.now }
+    {
+        self.count_below(first) + self.settled.by_number
+    }
+
     // Returns how many of its receipts have numbers below `first`.
-    pub(crate) fn count_below(&self, first: u64) -> u64
+    fn count_below(&self, first: u64) -> u64
         ensures below { result ≡ count_below first self.now.receipts }
         ensures few { result ≤ length self.now.receipts }
     {

@@ -186,7 +186,7 @@ settling_all drains status source old new first seat forgot fresh kept s = (
 
 -- put back, and compared with the history
 pub is_kept : (opening : Machine) (first : ℕ) (entries : List Entry) (l : PlainLedger) (seats rest : List PlainSeat) (count : ℕ) (seat : PlainSeat) → rest ≡ [] → seats ≡ rest ++ seat ∷ [] → count ≡ 1
-    → IsLegal opening entries → OpensAt first opening → IsReachedBy first opening → IsAccounted l seats count first entries → alone l seats first ≡ 0 → IsKept seat
+    → IsLegal opening entries → OpensAt first opening → IsReachedBy first opening → IsAccounted l seats count first entries → alone first seats ≡ 0 → IsKept seat
 is_kept opening first entries l seats rest count seat empty_rest pushed one legal opens reached accounted none =
     let all : seats ≡ seat ∷ [] = pushed ∙ ap (λ (r : List PlainSeat). r ++ seat ∷ []) empty_rest in (
       opening,
@@ -197,7 +197,7 @@ is_kept opening first entries l seats rest count seat empty_rest pushed one lega
       opens,
       reached,
       subst (λ (s : List PlainSeat). IsAccounted l s 1 first entries) all (subst (λ n. IsAccounted l seats n first entries) one accounted),
-      subst (λ (s : List PlainSeat). alone l s first ≡ 0) all none,
+      subst (λ (s : List PlainSeat). alone first s ≡ 0) all none,
     )
 
 -- the workers and the rows of a turn are those that the words ask for

@@ -85,7 +85,7 @@ abbrev pub IsKept : PlainSeat → Type 0
 IsKept seat =
     (opening : Machine) × (first : ℕ) × (entries : List Entry) × (l : PlainLedger)
     × IsLegal opening entries × OpensAt first opening × IsReachedBy first opening
-    × IsAccounted l (seat ∷ []) 1 first entries × (alone l (seat ∷ []) first ≡ 0)
+    × IsAccounted l (seat ∷ []) 1 first entries × (alone first (seat ∷ []) ≡ 0)
 
 -- The same as `Shares`, of a seat that settles: at the status 0 all its calls were compared.
 abbrev pub SharesSettling : (Answer → Type 0) → ℕ → Option (List ℕ) → Option (List ℕ)

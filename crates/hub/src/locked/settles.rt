@@ -20,13 +20,12 @@ impl Locked {
             return false;
         }
         let count = seat.receipts.len() as u64;
-        let by_number = seat.count_below(self.first);
         let settled = Settled {
             count: seat.settled.count + count,
             until: seat.own_reach,
+            by_number: seat.count_by_number(self.first),
         };
-        self.ledger
-            .settle(self.alloc, seat.number, settled, count, by_number);
+        self.ledger.settle(self.alloc, seat.number, settled, count);
         seat.receipts = Vec::new(self.alloc);
         seat.settled = settled;
         true

@@ -11,4 +11,4 @@ loop-preserved c =
 
 pub returns : goal.returns
 unfolding ledger_in
-returns c = (let all : c.loop.counter ≡ c.args.seats = omega arith in ap (λ x. plain x 0 0 0) (c.loop.invariant ∙ ap (λ n. replicate n fresh) all))
+returns c = (let all : c.loop.counter ≡ c.args.seats = omega arith in ap (λ x. plain x 0 0) (c.loop.invariant ∙ ap (λ n. replicate n fresh) all))

@@ -10,14 +10,14 @@ unfolding ledger_in
 returns-in_err-reserve-clause-same c =
     let l = c.args.self.now in
     let lt : c.args.seat < length l.accounts.items = search rules in
-    roomier l.accounts.items c.args.seat c.index_mut.result.now lt c.index_mut.ensures.value l.strangers l.settled l.by_number c.reserve.new.self c.reserve.ensures.items
+    roomier l.accounts.items c.args.seat c.index_mut.result.now lt c.index_mut.ensures.value l.strangers l.settled c.reserve.new.self c.reserve.ensures.items
 
 pub returns-in_ok-reserve-clause-same : goal.returns-in_ok-reserve-clause-same
 unfolding ledger_in
 returns-in_ok-reserve-clause-same c =
     let l = c.args.self.now in
     let lt : c.args.seat < length l.accounts.items = search rules in
-    roomier l.accounts.items c.args.seat c.index_mut.result.now lt c.index_mut.ensures.value l.strangers l.settled l.by_number c.reserve.new.self c.reserve.ensures.items
+    roomier l.accounts.items c.args.seat c.index_mut.result.now lt c.index_mut.ensures.value l.strangers l.settled c.reserve.new.self c.reserve.ensures.items
 
 pub returns-in_ok-reserve-clause-ok : goal.returns-in_ok-reserve-clause-ok
 returns-in_ok-reserve-clause-ok c =

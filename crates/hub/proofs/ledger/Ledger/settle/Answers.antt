@@ -6,4 +6,4 @@ pub returns : goal.returns
 unfolding ledger_in
 returns c =
     let l = c.args.self.now in
-    emptied l.accounts.items c.args.seat c.args.settled c.new.result l.strangers l.settled l.by_number c.args.count c.args.by_number c.new.ensures.items
+    emptied l.accounts.items c.args.seat c.args.settled c.new.result l.strangers l.settled c.args.count c.new.ensures.items

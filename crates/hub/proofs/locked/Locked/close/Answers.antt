@@ -1,8 +1,7 @@
-use Rattle.std.proofs.Common.{◌+◌, ◌<◌, ◌^◌, ap, arith, refl, subst, sym}
-use Rattle.std.specs.List.{sum_by}
-use Rattle.hub.specs.Audits.{IsAccounted}
+use Rattle.std.proofs.Common.{◌<◌, ◌^◌, ap, arith, refl, subst, sym}
+use Rattle.hub.specs.Audits.{IsAccounted, alone}
 use Rattle.hub.specs.Ledgers.{ledger_in}
-use Rattle.hub.specs.Seats.{IsAudited, PlainSeat, count_below}
+use Rattle.hub.specs.Seats.{IsAudited}
 use Rattle.hub.proofs.AuditLemmas.{alone_fits, alone_is, audited_as_ever, settled_by_all}
 use Rattle.hub.proofs.locked.Locked.close.Goals as goal
 
@@ -14,7 +13,7 @@ count_alone-by_number-requires c =
     let all : IsAccounted l c.args.seats.items d.seats d.first d.history.items =
     subst (λ x. IsAccounted l x d.seats d.first d.history.items) c.as_slice-2.ensures.value (subst (λ x. IsAccounted l c.as_slice-2.result.now d.seats d.first x) c.as_slice.ensures.value (c.if-not-is_accounted.ensures.0 refl)) in
     let few = alone_fits l c.args.seats.items d.seats d.first d.history.items c.self.invariant.7 c.self.invariant.6 all in
-    subst (λ x. d.ledger.by_number + sum_by (λ (s : PlainSeat). count_below d.first s.receipts) x < 2 ^ 64) (sym c.as_slice-3.ensures.value) (omega (arith, few, c.self.invariant.3))
+    subst (λ x. alone d.first x < 2 ^ 64) (sym c.as_slice-3.ensures.value) (omega (arith, few, c.self.invariant.3))
 
 pub returns-clause-unsettled : goal.returns-clause-unsettled
 unfolding ledger_in
@@ -39,4 +38,4 @@ pub returns-clause-by_number : goal.returns-clause-by_number
 unfolding ledger_in
 returns-clause-by_number c =
     let d = c.self.inside in
-    alone_is c.count_alone-by_number.result (ledger_in d.ledger) c.args.self.ledger c.as_slice-3.result.now c.args.seats.items d.first c.args.self.first c.count_alone-by_number.ensures c.as_slice-3.ensures.value (ap (λ x. x.ledger) c.self.view_is) (ap (λ x. x.first) c.self.view_is)
+    alone_is c.count_alone-by_number.result c.as_slice-3.result.now c.args.seats.items d.first c.args.self.first c.count_alone-by_number.ensures c.as_slice-3.ensures.value (ap (λ x. x.first) c.self.view_is)

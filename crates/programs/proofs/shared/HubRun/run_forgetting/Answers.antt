@@ -17,7 +17,7 @@ pub returns-then-are_compared-clause-shares : goal.returns-then-are_compared-cla
 returns-then-are_compared-clause-shares g c =
     let one = only_seat c.in-Ok.seats.items c.pop.new.self.items c.in-Some.seat c.in-Ok.ensures.ok.1 c.in-Some.ensures.items in
     let ok = c.in-Ok-close.ensures.ok in
-    let none = sym ok.2 ∙ c.are_compared.ensures.all c.if-are_compared.true in
+    let none = sym c.in-Ok-close.ensures.by_number ∙ c.are_compared.ensures.all c.if-are_compared.true in
     let kept = is_kept _ _ _ ok.0 c.push_reserved.new.self.items c.pop.new.self.items c.in-Ok.hub c.run-ran.new.seat one.0 c.push_reserved.ensures.items c.in-Ok.ensures.ok.0 c.in-Ok-close.ensures.legal c.in-Ok-close.ensures.opens c.in-Ok-close.ensures.reached ok.1 none in
     settling_all (PoolDrains c.args.self.now.workers c.args.self.now.turn) 0 (g.I.Source.left c.args.source.now) (g.O.Sink.taken c.args.sink.now) (g.O.Sink.taken c.run-ran.new.sink) c.in-Some.seat c.run-ran.new.seat
     c.in-Ok-ran.forgot one.1 kept (rw c.new-connection.ensures.rows at c.in-Ok-ran.ensures.text)

@@ -31,8 +31,6 @@ impl Settled {
     pub(crate) fn is_same(&self, other: &Settled) -> bool
         ensures { IsTrue result ↔ (self.now ≡ other.now) }
     {
-        self.count == other.count
-            && self.until == other.until
-            && self.by_number == other.by_number
+        self.count == other.count && self.until == other.until && self.by_number == other.by_number
     }
 }

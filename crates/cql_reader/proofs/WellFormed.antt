@@ -2,8 +2,8 @@
 use Rattle.std.proofs.Common.{◌≡◌, refl, ℕ, zero, suc, ◌<◌, ◌≤◌, Bool, true, not, ◌&&◌, nat_lt, int_lt, ℤ, pos, negsuc, nat_abs, List, [], ◌∷◌, ◌++◌, Result, Ok, sym, ap, ◌∙◌, inl, inr, subst, arith, All as Each'}
 use Rattle.std.proofs.lemmas.Bool.{and_parts, ltb-true, lt-ltb, cases_lt, false≢true}
 use Rattle.std.proofs.lemmas.Int.{ints}
-use Rattle.values.specs.Reach.{HasStep}
-use Rattle.values.specs.Value.{IsStreamNumber}
+use Rattle.values.specs.Moving.{HasStep}
+use Rattle.values.specs.Ranges.{IsStreamNumber}
 use Rattle.values.specs.declared.reach.Reach.{Reach}
 use Rattle.values.specs.declared.reach.Reach.TheVariants as reach
 use Rattle.cql_reader.specs.declared.symbols.Role.{Role}

@@ -6,7 +6,7 @@ use Rattle.values.specs.Answers.{StreamOperator, Istream}
 use Rattle.values.specs.declared.reach.Reach.{Reach}
 use Rattle.values.specs.declared.reach.Reach.TheVariants as reach
 use Rattle.values.specs.declared.resolved.Compare.{Compare}
-use Rattle.values.specs.Resolved.{operator_of}
+use Rattle.values.specs.StreamOperators.{operator_of}
 use Rattle.values.specs.declared.resolved.StreamOperator.TheVariants as o
 use Rattle.values.specs.declared.resolved.Aggregate.TheVariants as g
 use Rattle.values.specs.declared.resolved.Compare.TheVariants as c

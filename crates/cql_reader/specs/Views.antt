@@ -1,6 +1,6 @@
 -- What the values of the program say.
 use Rattle.std.specs.Prelude.{ℕ, List, map, take, Option, Some, None}
-use Rattle.values.specs.Resolved.{operator_of}
+use Rattle.values.specs.StreamOperators.{operator_of}
 use Rattle.cql_reader.specs.declared.name.Name.{Name}
 use Rattle.cql_reader.specs.declared.query.Reference.{Reference}
 use Rattle.cql_reader.specs.declared.query.WrittenEntry.{WrittenEntry}

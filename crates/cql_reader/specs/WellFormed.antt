@@ -1,7 +1,7 @@
 -- What holds for each query that is read.
 use Rattle.std.specs.Prelude.{ℕ, ◌<◌, ◌≤◌, Option, Some, None, length, All as Each'}
-use Rattle.values.specs.Value.{IsStreamNumber}
-use Rattle.values.specs.Reach.{HasStep}
+use Rattle.values.specs.Ranges.{IsStreamNumber}
+use Rattle.values.specs.Moving.{HasStep}
 use Rattle.values.specs.declared.reach.Reach.{Reach}
 use Rattle.values.specs.declared.reach.Reach.TheVariants as reach
 use Rattle.cql_reader.specs.Query.{Query, Entries, All, Each, WrittenWindow, Instants, Rows}

@@ -7,7 +7,7 @@ use Rattle.values.specs.Row.{Row, row_cmp}
 use Rattle.values.specs.Bag.{in_order}
 use Rattle.values.specs.Window.{Element}
 use Rattle.values.specs.Answers.{Resolved, answers_at, body, relation, relation_before, shown_at, streamed}
-use Rattle.values.specs.Resolved.{operator_of}
+use Rattle.values.specs.StreamOperators.{operator_of}
 use Rattle.op_queue.specs.Entries.{Entry}
 use Rattle.to_stream.specs.Turns.{State}
 use Rattle.plan.specs.Nodes.{plan_value}

@@ -5,7 +5,8 @@ use Rattle.std.specs.List.{reduce}
 use Rattle.std.proofs.lemmas.Bool.{cases_lt}
 use Rattle.std.proofs.lemmas.List.{get_or_past, length-map}
 use Rattle.values.specs.Row.{Row}
-use Rattle.values.specs.Needs.{Each, HasNeeded, is_needed}
+use Rattle.values.specs.Needs.{is_needed}
+use Rattle.values.specs.Enough.{Each, HasNeeded}
 use Rattle.values.specs.Window.{Element, Window}
 use Rattle.values.proofs.WindowLaw.{window_law}
 use Rattle.op_queue.specs.Entries.{Entry}

@@ -6,7 +6,7 @@ use Rattle.values.specs.Row.{Row, row_cmp}
 use Rattle.values.specs.Window.{Element, Window, window_rows}
 use Rattle.values.specs.Bag.{in_order}
 use Rattle.values.specs.Answers.{StreamOperator, streamed}
-use Rattle.values.specs.Resolved.{operator_of}
+use Rattle.values.specs.StreamOperators.{operator_of}
 use Rattle.op_queue.specs.Entries.{Entry, TickAt}
 use Rattle.op_queue.specs.Paths.{Leads}
 use Rattle.op_queue.specs.Signed.{Same}

@@ -4,7 +4,8 @@ use Rattle.std.proofs.lemmas.Bool.{lt-ltb}
 use Rattle.std.proofs.lemmas.List.{get_or-append-add, length-map}
 use Rattle.std.proofs.lemmas.List.FromFn.{length-map-range_with_len}
 use Rattle.values.specs.Row.{Row, row_cmp}
-use Rattle.values.specs.Window.{Element, Window, unbounded, window_rows}
+use Rattle.values.specs.Window.{Element, Window, window_rows}
+use Rattle.values.specs.Plain.{unbounded}
 use Rattle.values.specs.Bag.{distinct}
 use Rattle.values.specs.Condition.{SourceColumn, Condition}
 use Rattle.values.specs.Relation.{Shape, Listed, Grouped}

@@ -7,7 +7,7 @@ use Rattle.values.specs.Row.{Row, row_cmp}
 use Rattle.values.specs.Perm.{Perm}
 use Rattle.values.specs.Bag.{in_order, without}
 use Rattle.values.specs.Answers.{StreamOperator, Istream, Dstream, Rstream, streamed}
-use Rattle.values.specs.Resolved.{operator_of}
+use Rattle.values.specs.StreamOperators.{operator_of}
 use Rattle.values.proofs.Order.{row_order}
 use Rattle.values.proofs.Perms.{perm-bag_minus, perm-in_order}
 use Rattle.op_queue.specs.Entries.{Entry, TickAt}

@@ -16,7 +16,7 @@ use Rattle.laws_dataflow.specs.Plans.{below_root, inputs_of, value_of, world_of}
 use Rattle.plan.specs.Nodes as plan
 use Rattle.plan.specs.Nodes.{Window as WindowNode, Select, Join, Project, Group, Distinct, ToStream}
 use Rattle.reference.specs.Machine.{Machine, Registered, opens}
-use Rattle.values.specs.Resolved.{operator_of}
+use Rattle.values.specs.StreamOperators.{operator_of}
 use Rattle.std.proofs.lemmas.Bool.{lt-leb}
 use Rattle.laws_dataflow.specs.Starts.{fresh_cell, StartsEmpty, fresh_root}
 

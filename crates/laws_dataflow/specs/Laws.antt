@@ -1,7 +1,7 @@
 -- What is promised of nets.
 use Rattle.std.specs.Prelude.{◌≡◌, ◌≢◌, ℕ, Bool, Some, ◌<◌, List, ◌∷◌, ◌++◌}
 use Rattle.values.specs.Row.{Row}
-use Rattle.values.specs.Resolved.{operator_of}
+use Rattle.values.specs.StreamOperators.{operator_of}
 use Rattle.op_queue.specs.Entries.{Entry, TickAt}
 use Rattle.op_queue.specs.declared.item.Item.TheVariants.{Rows, Tick}
 use Rattle.to_stream.specs.Turns.{State, near, out}

@@ -3,7 +3,8 @@
 use Rattle.std.specs.Prelude.{◌≡◌, ℕ, suc, ◌-◌, ◌<◌, cond, max, min, List, [], ◌∷◌, ◌++◌, map}
 use Rattle.std.specs.Prelude.{length, get_or}
 use Rattle.values.specs.Row.{Row}
-use Rattle.values.specs.Window.{Element, Window, unbounded}
+use Rattle.values.specs.Window.{Element, Window}
+use Rattle.values.specs.Plain.{unbounded}
 use Rattle.values.specs.Answers.{Resolved, shown_at}
 use Rattle.plan.specs.Nodes as plan
 use Rattle.plan.specs.Nodes.{Window as WindowNode, Select, Join, Project, Group, Distinct, ToStream}

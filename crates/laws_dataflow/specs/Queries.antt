@@ -5,7 +5,7 @@ use Rattle.std.specs.List.{flat_map, range_with_len}
 use Rattle.values.specs.Row.{Row, row_cmp}
 use Rattle.values.specs.Bag.{in_order}
 use Rattle.values.specs.Answers.{StreamOperator, streamed}
-use Rattle.values.specs.Resolved.{operator_of}
+use Rattle.values.specs.StreamOperators.{operator_of}
 use Rattle.op_queue.specs.Entries.{Entry}
 use Rattle.op_queue.specs.Paths.{Leads}
 use Rattle.op_queue.specs.Signed.{Same}

@@ -7,7 +7,7 @@ use Rattle.values.specs.Row.{Row, row_cmp}
 use Rattle.values.specs.Window.{Element}
 use Rattle.values.specs.Bag.{bag_minus, in_order, insert_in_order, is_above, is_same, without}
 use Rattle.values.specs.Answers.{Dstream, Istream, StreamOperator, Rstream, streamed}
-use Rattle.values.specs.Resolved.{operator_of}
+use Rattle.values.specs.StreamOperators.{operator_of}
 use Rattle.plan.proofs.Lists.{each-append, each-left, each-right}
 use Rattle.reference.specs.Machine.{Registered, Stream, answers_from, input_at, until_for}
 use Rattle.reference.specs.Opening.{restart, with_kept}

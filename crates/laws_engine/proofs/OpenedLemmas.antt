@@ -6,7 +6,8 @@ use Rattle.std.specs.List.{AllByRecursion}
 use Rattle.std.specs.Option.{option_map, option_map_or}
 use Rattle.std.proofs.lemmas.Bool.{eq-eqb}
 use Rattle.values.specs.Row.{Row}
-use Rattle.values.specs.Window.{Element, Window, unbounded}
+use Rattle.values.specs.Window.{Element, Window}
+use Rattle.values.specs.Plain.{unbounded}
 use Rattle.values.specs.Needs.{is_needed}
 use Rattle.column.specs.declared.batch.Side.{Side}
 use Rattle.column.specs.declared.batch.Side.TheVariants.{Left, Right}

@@ -3,7 +3,7 @@ use Rattle.std.specs.Prelude.{ℕ, ◌≡◌, ◌<◌, ◌≤◌, ◌+◌, ◌�
 use Rattle.std.specs.Prelude.{[], ◌++◌, drop, length, get_or, map, slice_get}
 use Rattle.std.specs.List.{AllByRecursion}
 use Rattle.values.specs.Row.{Row}
-use Rattle.values.specs.Reach.{HasStep}
+use Rattle.values.specs.Moving.{HasStep}
 use Rattle.values.specs.Window.{Element, Window, Instants, LastRows, shows}
 use Rattle.values.specs.Needs.{is_needed}
 use Rattle.reference.specs.Machine.{Machine, Registered, Stream, answers_from, input_at, until_for}

@@ -7,7 +7,8 @@ use Rattle.std.proofs.lemmas.Bool.{cases_lt, eqb-true, ltb-false}
 use Rattle.std.proofs.lemmas.List.{get_or_past, get_or-map, length-map}
 use Rattle.values.specs.Row.{Row}
 use Rattle.values.specs.Window.{Element, input_of}
-use Rattle.values.specs.Needs.{Each, HasNeeded, is_needed}
+use Rattle.values.specs.Needs.{is_needed}
+use Rattle.values.specs.Enough.{Each, HasNeeded}
 use Rattle.op_queue.specs.Entries.{Entry, TickAt}
 use Rattle.op_queue.specs.Cursors.{IsWithin, cursor_entries}
 use Rattle.op_queue.specs.Logs.{Closed, is_shown, row_entries, shown, instant_entries}

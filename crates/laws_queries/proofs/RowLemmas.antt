@@ -6,7 +6,8 @@ use Rattle.std.proofs.lemmas.Bool.{leb-true}
 use Rattle.std.proofs.lemmas.Int.{ints}
 use Rattle.std.proofs.lemmas.List.Elements.{All-cons, All-nil}
 use Rattle.values.specs.Row.{Row}
-use Rattle.values.specs.Value.{IsAnswerNumber, IsAnswerValue, stream_max}
+use Rattle.values.specs.Value.{stream_max}
+use Rattle.values.specs.Ranges.{IsAnswerNumber, IsAnswerValue}
 use Rattle.values.specs.Window.{Element}
 use Rattle.names.specs.Faults.{first_of}
 use Rattle.plan.proofs.Lists.{each-append}

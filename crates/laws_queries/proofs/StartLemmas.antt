@@ -4,7 +4,8 @@ use Rattle.std.specs.List.{AllByRecursion}
 use Rattle.std.proofs.lemmas.List.{get_or-map, length-map}
 use Rattle.std.proofs.lemmas.List.FromFn.{length-map-range_with_len}
 use Rattle.values.specs.declared.TheConstants.{MAX_COLUMNS}
-use Rattle.values.specs.Resolved.{condition_of, operator_of, window_of}
+use Rattle.values.specs.Resolved.{condition_of, window_of}
+use Rattle.values.specs.StreamOperators.{operator_of}
 use Rattle.values.specs.declared.resolved.ListItem.TheVariants as listed
 use Rattle.values.specs.declared.resolved.StreamOperator.{StreamOperator}
 use Rattle.values.specs.declared.resolved.Window.{Window}
@@ -83,7 +84,7 @@ text_window [] s h = tt
 text_window (w ∷ ws) zero h = h.0
 text_window (w ∷ ws) (suc s) h = text_window ws s h.1
 
-window_is : (ws : List Window) (s : ℕ) → get_or (map window_of ws) s Rattle.values.specs.Window.unbounded ≡ window_of (window_at ws s)
+window_is : (ws : List Window) (s : ℕ) → get_or (map window_of ws) s Rattle.values.specs.Plain.unbounded ≡ window_of (window_at ws s)
 window_is [] s = refl
 window_is (w ∷ ws) zero = refl
 window_is (w ∷ ws) (suc s) = window_is ws s
@@ -146,7 +147,7 @@ module _ (windows : List Window) (vs ws : List ℕ) (m : Machine) (q : Registere
       let place : get_or (lengths_of q) s 0 ≡ (place_of q s).arrivals = get_or-map (λ (p : Place). p.arrivals) q.places s (record { stream = 0; arrivals = 0 }) 0 low in
       let reads : made.ReadsSource (place_of q s).arrivals q.first o.left = subst (λ p. made.ReadsSource p q.first o.left) place h.left in
       let b : WindowBegins q.first (get_or vs s 0) (window_at windows s) o.kind o.state = window_begins q.first (get_or vs s 0) (window_at windows s) o.kind o.state h.kind h.state in
-      let is : (world_of m q).windows s ≡ window_of (window_at windows s) = ap (λ l. get_or l s Rattle.values.specs.Window.unbounded) shows ∙ window_is windows s in
+      let is : (world_of m q).windows s ≡ window_of (window_at windows s) = ap (λ l. get_or l s Rattle.values.specs.Plain.unbounded) shows ∙ window_is windows s in
       let empty : length ((world_of m q).inputs s) ≡ 0 = ap length none in
       record {
         runs = record {

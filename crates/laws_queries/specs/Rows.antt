@@ -2,7 +2,7 @@
 -- times: their order of arrival, and the range of their values.
 use Rattle.std.specs.Prelude.{ℕ, ◌≡◌, ◌<◌, None, List}
 use Rattle.std.specs.List.{All, AllByRecursion}
-use Rattle.values.specs.Value.{IsAnswerValue}
+use Rattle.values.specs.Ranges.{IsAnswerValue}
 use Rattle.plan.specs.Nodes as plan
 use Rattle.reference.specs.Commands.{Command, after, first_fault}
 use Rattle.reference.specs.Machine.{Machine, Registered, Stream, empty}

@@ -2,8 +2,8 @@
 use Rattle.std.proofs.Common.{◌≡◌, ℕ, ℤ, ◌+◌, ◌-◌, ◌<◌, ◌≤◌, Bool, true, false, max, ◌&&◌, ◌||◌, nat_le, nat_lt, Option, List, length, filter, get_or, refl, ap, sym, ◌∙◌, arith, le-leb, lt-ltb, le-ltb, leb-true, ⊎_elim}
 use Rattle.std.proofs.lemmas.Bool.{cases_lt, lt-leb}
 use Rattle.std.proofs.lemmas.Bool.Decides.{nat_tests}
-use Rattle.values.specs.Reach as reach
-use Rattle.values.specs.Reach.{has}
+use Rattle.values.specs.Moving as moving
+use Rattle.values.specs.Moving.{has}
 use Rattle.values.specs.Window.{Element, Window, Instants, LastRows, counts, count_later}
 use Rattle.values.specs.declared.reach.NeededInstants.{NeededInstants}
 use Rattle.values.specs.declared.reach.Reach.{Reach}
@@ -26,7 +26,7 @@ module _ (instants numbers : List ℕ) (columns : List (List (Option ℤ))) (pla
   abbrev e : Element
   e = element_at instants numbers columns i
 
-  pub reach_needs : (r : Reach) (n : NeededInstants) → ((t : ℕ) → has n t ≡ (nat_le first t && reach.needs first r next t))
+  pub reach_needs : (r : Reach) (n : NeededInstants) → ((t : ℕ) → has n t ≡ (nat_le first t && moving.needs first r next t))
       → is_needed_by es (record { place = place; first = first; next = next; window = Instants r }) e ≡ (is_from instants numbers place n.since i || is_between instants numbers place n.low n.high i)
   reach_needs r n h = sym (either_unless (has_arrived numbers place i) _ _ _ _ (h (get_or instants i 0)))
 
@@ -122,7 +122,7 @@ module _ (instants numbers : List ℕ) (columns : List (List (Option ℤ))) (pla
   abbrev needs : Window → ℕ → Bool
   needs w i = is_needed_by Whole (record { place = place; first = first; next = next; window = w }) (element_at instants numbers columns i)
 
-  pub reach_needed : (r : Reach) (n : NeededInstants) (mid new : List Bool) → ((t : ℕ) → has n t ≡ (nat_le first t && reach.needs first r next t))
+  pub reach_needed : (r : Reach) (n : NeededInstants) (mid new : List Bool) → ((t : ℕ) → has n t ≡ (nat_le first t && moving.needs first r next t))
       → Sets (is_from instants numbers place n.since) old mid → Sets (is_between instants numbers place n.low n.high) mid new → Sets (needs (Instants r)) old new
   reach_needed r n mid new h s t =
       sets_same (λ i. is_from instants numbers place n.since i || is_between instants numbers place n.low n.high i) (needs (Instants r)) old new

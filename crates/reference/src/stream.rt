@@ -1,7 +1,8 @@
 //! Keeps a declared stream and what came to it.
 ghost use Rattle.std.specs.Prelude.{◌≡◌, ◌≤◌, ◌*◌, [], None, OnOk, OnErr, IfOk, IfSome, length};
 ghost use Rattle.std.specs.Prelude.{◌+◌, ◌∷◌, ◌++◌, ◌&&◌, nat_le};
-ghost use Rattle.values.specs.Window.{input_of, plain, numbered};
+ghost use Rattle.values.specs.Window.{input_of, numbered};
+ghost use Rattle.values.specs.Plain.{plain};
 ghost use Rattle.reference.specs.Commands.{append_tests, heartbeat_tests, appended, closed_to};
 ghost use Rattle.reference.specs.Commands.{catalog_of};
 ghost use Rattle.names.specs.Faults.{first_of};

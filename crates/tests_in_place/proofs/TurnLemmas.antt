@@ -13,7 +13,7 @@ use Rattle.row_nodes.specs.Project.{projected, projected_row}
 use Rattle.row_nodes.specs.Select.{is_kept, selected}
 use Rattle.op_queue.specs.Paths.{rows_in}
 use Rattle.windows.specs.Instants as instants
-use Rattle.values.specs.Reach.{moves}
+use Rattle.values.specs.Moving.{moves}
 use Rattle.windows.specs.Widths.{IsItemWide}
 use Rattle.windows.specs.Windows.{Begins, IsAfter, IsNext, MayTake, WindowState, near, out, width_of}
 use Rattle.windows.specs.declared.window.Holding.TheVariants.{Instants, Latest}

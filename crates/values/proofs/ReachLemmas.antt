@@ -4,7 +4,8 @@ use Rattle.std.proofs.lemmas.Bool.{cases_lt, lt-leb}
 use Rattle.std.proofs.lemmas.Bool.Decides.{nat_tests}
 use Rattle.std.proofs.lemmas.Nat.{le-div}
 use Rattle.std.proofs.Math.Nat.{div-lt_iff_lt-mul, div-mul-le_self, div-zero, mul-div_left, mul-le-mul_right, suc-mul}
-use Rattle.values.specs.Reach.{HasStep, at_once, moves, needs, oldest, reaches, still_reaches}
+use Rattle.values.specs.Reach.{reaches, still_reaches}
+use Rattle.values.specs.Moving.{HasStep, at_once, moves, needs, oldest}
 use Rattle.values.specs.declared.reach.Reach.{Reach}
 use Rattle.values.specs.declared.reach.Reach.TheVariants.{All, Last, Steps}
 

@@ -3,7 +3,8 @@ use Rattle.std.proofs.Common.{◌≡◌, ℕ, suc, ◌+◌, ◌-◌, ◌≤◌, 
 use Rattle.std.proofs.lemmas.List.Elements.{filter-append}
 use Rattle.values.specs.Window.{Element, Window, Instants, LastRows, counts, count_later, shows}
 use Rattle.values.proofs.Windows.{tally, tally_is, tally-append}
-use Rattle.values.specs.Needs.{Each, is_needed, HasNeeded, WindowsShowTheSame}
+use Rattle.values.specs.Needs.{is_needed}
+use Rattle.values.specs.Enough.{Each, HasNeeded, WindowsShowTheSame}
 use Rattle.values.proofs.CountLemmas.{and_true, and_both, tally_le, few_later, n_are_shown}
 use Rattle.values.proofs.ReachLemmas.{reached_needed}
 

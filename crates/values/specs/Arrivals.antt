@@ -1,13 +1,8 @@
 -- Inputs that differ by later elements, or in the order of arrival alone.
-use Rattle.std.specs.Prelude.{◌≡◌, ℕ, ◌==◌, ◌≤◌, List, [], ◌∷◌, ◌++◌, filter}
+use Rattle.std.specs.Prelude.{◌≡◌, ℕ, ◌==◌, List, [], ◌∷◌, ◌++◌, filter}
 use Rattle.values.specs.Row.{Row}
 use Rattle.values.specs.Perm.{Perm}
-use Rattle.values.specs.Window.{Element, Window, Instants, LastRows}
-
--- elements of instants from `until` on
-abbrev pub AllFrom : ℕ → List Element → Type 0
-AllFrom until [] = Unit {0}
-AllFrom until (e ∷ es) = (until ≤ e.instant) × AllFrom until es
+use Rattle.values.specs.Window.{Element, Window, Instants, LastRows, AllFrom}
 
 -- the second inputs are the first with elements of instants from `until` on behind them
 abbrev pub Longer : ℕ → List (List Element) → List (List Element) → Type 0

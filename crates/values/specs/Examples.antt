@@ -3,7 +3,8 @@ use Rattle.std.specs.Prelude.{◌≡◌, ℕ, true, false, Option, Some, None, �
 use Rattle.std.specs.Prelude.{[], ◌∷◌, codes, refl}
 use Rattle.std.specs.Fmt.{digits}
 use Rattle.std.specs.declared.cmp.Ordering.TheVariants.{Less, Equal, Greater}
-use Rattle.values.specs.Value.{stream_max, answer_max, clamp_answer, value_text}
+use Rattle.values.specs.Value.{stream_max, answer_max, clamp_answer}
+use Rattle.values.specs.Text.{value_text}
 use Rattle.values.specs.Row.{Row, row_cmp}
 use Rattle.values.specs.declared.reach.Reach.TheVariants.{Last, Steps}
 use Rattle.values.specs.Window.{input_of, Window, numbered, Instants, LastRows}

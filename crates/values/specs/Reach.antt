@@ -1,9 +1,8 @@
--- Which instants a window shows, when it moves, and which instants it still needs.
-use Rattle.std.specs.Prelude.{ℕ, ◌+◌, ◌-◌, ◌*◌, ◌/◌, ◌==◌, ◌<◌, Bool, true, false, ◌&&◌, ◌||◌}
-use Rattle.std.specs.Prelude.{nat_le, nat_lt}
+-- TO BELIEVE: the theorem rests on these definitions, and no proof can check them.
+-- Which instants a window shows, and which ones it still needs when nothing more comes.
+use Rattle.std.specs.Prelude.{ℕ, ◌+◌, ◌-◌, ◌*◌, ◌/◌, Bool, ◌&&◌, ◌||◌, nat_le}
 use Rattle.values.specs.declared.reach.Reach.{Reach}
 use Rattle.values.specs.declared.reach.Reach.TheVariants.{All, Last, Steps}
-use Rattle.values.specs.declared.reach.NeededInstants.{NeededInstants}
 
 -- WHAT IT SHOWS at the instant t: whether what came at the instant i;
 -- `start` is the first instant above the query's base
@@ -16,31 +15,6 @@ reaches start (Last n) t i = nat_le (t - n) i && nat_le i t
 reaches start (Steps n l) t i =
     nat_le start (t / l * l) && nat_le (t / l * l - n) i && nat_le i (t / l * l)
 
--- HOW IT MOVES
--- it moves at the tick of the instant t: rows leave, and rows that waited are shown
-abbrev pub moves : Reach → ℕ → Bool
-moves All t = false
-moves (Last n) t = true
-moves (Steps n l) t = t / l * l == t
-
--- the first instant that it shows once it has moved at the tick of t
-abbrev pub oldest : Reach → ℕ → ℕ
-oldest All t = 0
-oldest (Last n) t = t - n
-oldest (Steps n l) t = t - n
-
--- rows are shown as soon as they come, and do not wait until it moves
-abbrev pub at_once : Reach → Bool
-at_once All = true
-at_once (Last n) = true
-at_once (Steps n l) = false
-
--- its step is one instant or more, as each step of the code is
-abbrev pub HasStep : Reach → Type 0
-HasStep All = Unit {0}
-HasStep (Last n) = Unit {0}
-HasStep (Steps n l) = 0 < l
-
 -- WHAT IT STILL NEEDS
 -- at the instant t or later it shows what came at i, which is not above t, when nothing more comes
 abbrev pub still_reaches : ℕ → Reach → ℕ → ℕ → Bool
@@ -49,11 +23,3 @@ still_reaches start (Last n) t i = reaches start (Last n) t i
 -- the next multiple shows what the later ones show
 still_reaches start (Steps n l) t i =
     reaches start (Steps n l) t i || nat_le ((t / l + 1) * l - n) i
-
--- `next` is the instant after the mark: what is above the mark, and what it still shows
-abbrev pub needs : ℕ → Reach → ℕ → ℕ → Bool
-needs start r next i = nat_le next i || still_reaches start r (next - 1) i
-
--- the instants that the code holds have i
-abbrev pub has : NeededInstants → ℕ → Bool
-has n i = nat_le n.since i || (nat_le n.low i && nat_lt i n.high)

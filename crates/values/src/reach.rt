@@ -1,8 +1,9 @@
 //! Says which instants a window shows, when it moves, and which instants it still needs.
 ghost use Rattle.std.specs.Prelude.{◌≡◌, ℕ, ◌<◌, ◌≤◌, ◌+◌, ◌-◌, ◌*◌, ◌/◌, ◌==◌, false, min};
 ghost use Rattle.std.specs.Prelude.{◌&&◌, nat_le};
-ghost use Rattle.values.specs.Reach as spec;
-ghost use Rattle.values.specs.Reach.{has, reaches};
+ghost use Rattle.values.specs.Moving as moving;
+ghost use Rattle.values.specs.Reach.{reaches};
+ghost use Rattle.values.specs.Moving.{has};
 ghost use Rattle.values.specs.declared.reach.Reach.TheVariants.{Steps as AtSteps};
 
 use crate::step::Step;
@@ -51,7 +52,7 @@ impl Reach {
 
     /// Returns whether the window moves at the tick of an instant.
     pub fn moves(&self, at: u64) -> bool
-        ensures { result ≡ spec.moves self.now at }
+        ensures { result ≡ moving.moves self.now at }
     {
         match self {
             Reach::All => false,
@@ -62,7 +63,7 @@ impl Reach {
 
     /// Returns the first instant that the window shows once it has moved at the tick of an instant.
     pub fn oldest(&self, at: u64) -> u64
-        ensures { result ≡ spec.oldest self.now at }
+        ensures { result ≡ moving.oldest self.now at }
     {
         match self {
             Reach::All => 0,
@@ -73,7 +74,7 @@ impl Reach {
 
     /// Returns whether rows are shown as soon as they come.
     pub fn shows_at_once(&self) -> bool
-        ensures { result ≡ spec.at_once self.now }
+        ensures { result ≡ moving.at_once self.now }
     {
         match self {
             Reach::All => true,
@@ -84,7 +85,7 @@ impl Reach {
 
     /// Returns an instant below which, from `start` on, the window does not move.
     pub fn stays_until(&self, start: u64) -> u64
-        ensures { (t : ℕ) → start ≤ t → t < result → spec.moves self.now t ≡ false }
+        ensures { (t : ℕ) → start ≤ t → t < result → moving.moves self.now t ≡ false }
     {
         match self {
             Reach::All => u64::MAX,
@@ -95,7 +96,7 @@ impl Reach {
 
     /// Returns an instant before whose tick no row of the instant `first` or later is past.
     pub fn keeps_until(&self, first: u64) -> u64
-        ensures { (t : ℕ) → t < result → spec.oldest self.now t ≤ first }
+        ensures { (t : ℕ) → t < result → moving.oldest self.now t ≤ first }
     {
         match self {
             Reach::All => u64::MAX,
@@ -108,7 +109,7 @@ impl Reach {
     /// `next` is the instant after the query's mark. It needs all from `next` on, and those that it
     /// shows at the mark or later when nothing more comes.
     pub fn needs(&self, first: u64, next: u64) -> NeededInstants
-        ensures { (i : ℕ) → has result i ≡ (nat_le first i && spec.needs first self.now next i) }
+        ensures { (i : ℕ) → has result i ≡ (nat_le first i && moving.needs first self.now next i) }
     {
         match self {
             Reach::All => NeededInstants {
@@ -131,7 +132,7 @@ impl Reach {
 /// the most of all later ones. If the step is longer than the span, there is a gap between the two.
 fn steps_need(span: u64, step: Step, first: u64, next: u64) -> NeededInstants
     ensures { (i : ℕ) → has result i
-        ≡ (nat_le first i && spec.needs first (AtSteps span step) next i) }
+        ≡ (nat_le first i && moving.needs first (AtSteps span step) next i) }
 {
     let multiple = last_multiple(step, next.saturating_sub(1));
     let least = next.min(least_at_next(multiple, span, step.get()));

@@ -2,9 +2,10 @@
 use Rattle.std.proofs.Common.{◌≡◌, ℕ, zero, suc, ◌+◌, ◌-◌, ◌≤◌, ◌<◌, Bool, true, false, cond, not, List, [], ◌∷◌, ◌++◌, map, filter, length, take, drop, refl, ap, ap₂, sym, ◌∙◌, subst, arith, append-nil, append_assoc, true≢false, length-append, take-append-drop}
 use Rattle.std.proofs.lemmas.List.{map-append, take-append-le, take_all, length-map, take-map}
 use Rattle.std.proofs.lemmas.List.Elements.{filter-append}
-use Rattle.values.specs.Reach.{at_once, moves}
+use Rattle.values.specs.Moving.{at_once, moves}
 use Rattle.values.specs.Row.{Row}
-use Rattle.values.specs.Window.{Element, Window, Instants, plain, shows, window_rows}
+use Rattle.values.specs.Window.{Element, Window, Instants, shows, window_rows}
+use Rattle.values.specs.Plain.{plain}
 use Rattle.values.proofs.ReachLemmas.{all_shown, moves_first, not_reached, now_shown, past_gone, still_shown}
 use Rattle.op_queue.specs.Entries.{Entry, RowAt, TickAt}
 use Rattle.op_queue.specs.Paths.{rows_in}

@@ -12,7 +12,7 @@ use Rattle.op_queue.proofs.GainLemmas.{gained-item, gained-more, gained-same}
 use Rattle.op_queue.specs.declared.item.Item.{Item}
 use Rattle.op_queue.specs.declared.item.Item.TheVariants.{Rows, Tick}
 use Rattle.windows.specs.Instants.{HaveOneWidthIn, InstantState, IsInOrder, entering, is_past, leaving, moved, moved_out, near, near_at, no_rows, out, past_count, signed, tick_out, with_rows}
-use Rattle.values.specs.Reach.{moves, oldest}
+use Rattle.values.specs.Moving.{moves, oldest}
 use Rattle.windows.proofs.LeavingLemmas.{IsForward-front, near_count}
 use Rattle.windows.proofs.OrderLemmas.{is_below, drop-below, below-none, sorted-head, sorted-tail}
 

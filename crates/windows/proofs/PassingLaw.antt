@@ -2,10 +2,11 @@
 use Rattle.std.proofs.Common.{◌≡◌, ℕ, zero, suc, ◌+◌, ◌-◌, ◌<◌, ◌≤◌, Bool, true, false, cond, not, List, [], ◌∷◌, map, filter, length, take, drop, inl, inr, refl, sym, ap, ◌∙◌, subst, subst₂, arith}
 use Rattle.std.proofs.lemmas.Bool.Decides.{nat_tests}
 use Rattle.std.proofs.lemmas.List.{drop_all, take_all}
-use Rattle.values.specs.Reach.{at_once, moves, oldest}
+use Rattle.values.specs.Moving.{at_once, moves, oldest}
 use Rattle.values.specs.Row.{Row}
 use Rattle.values.specs.Window as shown
-use Rattle.values.specs.Window.{Element, Window, LastRows, plain, window_rows}
+use Rattle.values.specs.Window.{Element, Window, LastRows, window_rows}
+use Rattle.values.specs.Plain.{plain}
 use Rattle.values.specs.declared.reach.Reach.{Reach}
 use Rattle.values.proofs.ReachLemmas.{oldest_rises}
 use Rattle.op_queue.specs.Entries.{Entry, TickAt}

@@ -3,7 +3,7 @@ use Rattle.std.specs.Prelude.{ℕ, ◌≡◌, ◌-◌, ◌<◌, ◌≤◌, ◌�
 use Rattle.std.specs.Prelude.{List, [], ◌∷◌, ◌++◌, map, length, take, drop}
 use Rattle.std.specs.List.{filter, All}
 use Rattle.std.specs.List.Sorted.{IsNonDecreasingBy}
-use Rattle.values.specs.Reach.{at_once, moves, oldest}
+use Rattle.values.specs.Moving.{at_once, moves, oldest}
 use Rattle.values.specs.Row.{Row}
 use Rattle.values.specs.declared.reach.Reach.{Reach}
 use Rattle.op_queue.specs.Entries.{Entry, RowAt, TickAt}

@@ -2,11 +2,12 @@
 -- (Arasu, Babu and Widom, "The CQL continuous query language", 2006).
 use Rattle.std.specs.Prelude.{ℕ, suc, take, length, ◌+◌, ◌<◌, ◌≤◌, ◌≡◌, Bool, true, false, List, []}
 use Rattle.std.specs.Prelude.{◌∷◌, ◌++◌, map, filter}
-use Rattle.values.specs.Reach.{at_once}
+use Rattle.values.specs.Moving.{at_once}
 use Rattle.values.specs.Row.{Row, same_row}
 use Rattle.values.specs.Window as shown
 use Rattle.values.specs.Window.{Element, Window, LastRows, is_later}
-use Rattle.values.specs.Window.{plain, shows, window_rows}
+use Rattle.values.specs.Window.{shows, window_rows}
+use Rattle.values.specs.Plain.{plain}
 use Rattle.op_queue.specs.Paths.{rows_in}
 use Rattle.op_queue.specs.Signed.{Same, Turns}
 use Rattle.op_queue.specs.declared.item.Item.TheVariants.{Rows, Tick}

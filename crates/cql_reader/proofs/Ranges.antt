@@ -1,7 +1,7 @@
 -- A number that is cut off outside each range is in the same ranges.
 use Rattle.std.proofs.Common.{◌≡◌, ℕ, zero, suc, ◌<◌, ◌≤◌, Bool, true, false, not, ◌&&◌, ℤ, pos, negsuc, neg_ℤ, int_lt, nat_lt, nat_abs, min, refl, sym, ap, ◌∙◌, arith, inl, inr}
 use Rattle.std.proofs.lemmas.Bool.{cases_lt, ltb-true, lt-ltb, le-ltb, and_parts, false≢true}
-use Rattle.cql_reader.specs.Lexis.{capped}
+use Rattle.cql_reader.specs.Scanning.{capped}
 use Rattle.cql_reader.specs.Grammar.{in_span, in_step, in_rows, in_stream}
 
 pub capped_negative : (n : ℕ) → neg_ℤ (pos (min n 2199023255552)) ≡ capped (neg_ℤ (pos n))

@@ -16,7 +16,8 @@ use Rattle.cql_reader.specs.Tokens.{Token}
 use Rattle.cql_reader.specs.Fault.{Fault}
 use Rattle.cql_reader.specs.Query.{Query, WrittenSource, WrittenEntry, Reference, WrittenWindow, Instants, Rows, Partition, WrittenCondition}
 use Rattle.cql_reader.specs.Grammar.{Draft, Strict, in_span, in_step, in_rows, in_stream, in_range, may_open, allowed, took, did, listed, last_standing, partitioned, slid_reach, sliding, negated, conjoined, disjoined, Derives, nothing, read, emit, rule}
-use Rattle.cql_reader.specs.Reading.{IsAnswer, reading}
+use Rattle.cql_reader.specs.Reading.{IsAnswer}
+use Rattle.cql_reader.specs.Judging.{reading}
 use Rattle.cql_reader.specs.WellFormed.{HasItems, IsInRange, IsRowCount, IsGoodWindow, IsGoodOperand, IsGoodCondition, IsGoodWhere, IsWellFormed}
 use Rattle.cql_reader.proofs.OneAnswer.{reading_right}
 use Rattle.cql_reader.proofs.Sources.{query_sources}

@@ -8,8 +8,8 @@ use Rattle.values.specs.declared.resolved.Compare.{Compare}
 use Rattle.values.specs.declared.resolved.Compare.TheVariants.{Equals, Differs, Below, AtMost}
 use Rattle.values.specs.declared.resolved.Compare.TheVariants.{Above, AtLeast}
 use Rattle.cql_reader.specs.Lexis.{is_name, reserved, same_bytes, same_letters, kind_in, word_kind}
-use Rattle.cql_reader.specs.Lexis.{all_word, all_ascii, token_at, decimal, number_of}
-use Rattle.cql_reader.specs.Tokens.{scan}
+use Rattle.cql_reader.specs.Lexis.{all_word, token_at, decimal, number_of}
+use Rattle.cql_reader.specs.Scanning.{all_ascii, scan}
 use Rattle.cql_reader.specs.Query.{Query, Reference, Column, CountAll, Of, All, Each, WrittenWindow}
 use Rattle.cql_reader.specs.Query.{Instants, Rows, Partition, WrittenSource}
 use Rattle.cql_reader.specs.Query.{WrittenOperand}
@@ -18,7 +18,7 @@ use Rattle.cql_reader.specs.Grammar.{alternatives, kind_of, in_range, deepens, t
 use Rattle.cql_reader.specs.Fault.{Fault, BadToken, Unexpected, NumberRange, TooDeep}
 use Rattle.cql_reader.specs.Prediction.{first, nullable, has, firsts, ends, pick, chosen, run}
 use Rattle.cql_reader.specs.Prediction.{count, parsed}
-use Rattle.cql_reader.specs.Reading.{reading}
+use Rattle.cql_reader.specs.Judging.{reading}
 
 -- a query of `*`
 abbrev all : StreamOperator → List WrittenSource → Option WrittenCondition → Query

@@ -1,5 +1,5 @@
 -- What the values of the program say.
-use Rattle.std.specs.Prelude.{ℕ, List, map, take, Option, Some, None}
+use Rattle.std.specs.Prelude.{ℕ, List, map, Option, Some, None}
 use Rattle.values.specs.StreamOperators.{operator_of}
 use Rattle.cql_reader.specs.declared.name.Name.{Name}
 use Rattle.cql_reader.specs.declared.query.Reference.{Reference}
@@ -16,9 +16,7 @@ use Rattle.cql_reader.specs.declared.query.WrittenCondition.{WrittenCondition, C
 use Rattle.cql_reader.specs.declared.query.WrittenCondition.{Or'}
 use Rattle.cql_reader.specs.declared.query.Query.{Query}
 use Rattle.cql_reader.specs.Query as syntax
-
-abbrev pub name_of : Name → List ℕ
-name_of name = take name.len name.bytes
+use Rattle.cql_reader.specs.Names.{name_of}
 
 abbrev pub alias_of : Option Name → Option (List ℕ)
 alias_of None = None

@@ -3,7 +3,7 @@ ghost use Rattle.std.specs.Prelude.{◌≡◌, ◌≤◌, ℕ, List, Ok, Some, f
 ghost use Rattle.values.specs.Condition.{Condition};
 ghost use Rattle.values.specs.Row.{Row};
 ghost use Rattle.cql_reader.specs.Query.{Query};
-ghost use Rattle.cql_reader.specs.Reading.{reading};
+ghost use Rattle.cql_reader.specs.Judging.{reading};
 ghost use Rattle.names.specs.Catalog as catalogs;
 ghost use Rattle.names.specs.Resolved.{resolved};
 ghost use Rattle.row_nodes.specs.Steps.{truths_needed};

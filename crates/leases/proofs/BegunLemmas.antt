@@ -3,7 +3,7 @@ use Rattle.std.proofs.Common.{◌≡◌, ◌∙◌, ℕ, ℤ, false, Option, Lis
 use Rattle.std.specs.Prelude.{IfOk, OnOk}
 use Rattle.values.specs.Resolved.{resolved_of}
 use Rattle.cql_reader.specs.Query as syntax
-use Rattle.cql_reader.specs.Reading.{reading}
+use Rattle.cql_reader.specs.Judging.{reading}
 use Rattle.names.specs.Resolved.{widths}
 use Rattle.plan.specs.Views.{nodes_of}
 use Rattle.plan.specs.declared.operators.Plan.{Plan}

@@ -11,7 +11,7 @@ use Rattle.values.specs.declared.resolved.SourceColumn.{SourceColumn}
 use Rattle.values.specs.declared.resolved.Condition.{Condition}
 use Rattle.values.specs.Resolved.{column_of, condition_of}
 use Rattle.cql_reader.specs.Query as syntax
-use Rattle.cql_reader.specs.Views.{name_of}
+use Rattle.cql_reader.specs.Names.{name_of}
 use Rattle.cql_reader.specs.declared.name.Name.{Name}
 use Rattle.names.specs.Catalog.{Stream}
 use Rattle.names.specs.Matches as spec

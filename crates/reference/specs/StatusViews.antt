@@ -1,6 +1,6 @@
 -- What the code answers of streams and queries, as what is defined of them.
 use Rattle.std.specs.Prelude.{map, string_bytes}
-use Rattle.cql_reader.specs.Views.{name_of}
+use Rattle.cql_reader.specs.Names.{name_of}
 use Rattle.names.specs.Views.{names_of}
 use Rattle.reference.specs.Status as defined
 use Rattle.reference.specs.declared.status.QueryStatus.{QueryStatus}

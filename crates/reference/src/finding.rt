@@ -5,7 +5,7 @@ ghost use Rattle.std.specs.Option.{option_copied};
 ghost use Rattle.cql_reader.specs.Coded.{Tells};
 ghost use Rattle.cql_reader.specs.Fault as text;
 ghost use Rattle.cql_reader.specs.Query as syntax;
-ghost use Rattle.cql_reader.specs.Reading.{reading};
+ghost use Rattle.cql_reader.specs.Judging.{reading};
 ghost use Rattle.cql_reader.specs.Views.{query_of};
 ghost use Rattle.cql_reader.specs.WellFormed.{IsWellFormed};
 ghost use Rattle.names.specs.Catalog as catalogs;

@@ -7,7 +7,7 @@ ghost use Rattle.reference.specs.Commands.{append_tests, heartbeat_tests, append
 ghost use Rattle.reference.specs.Commands.{catalog_of};
 ghost use Rattle.names.specs.Faults.{first_of};
 ghost use Rattle.names.specs.Views.{names_of};
-ghost use Rattle.cql_reader.specs.Views.{name_of};
+ghost use Rattle.cql_reader.specs.Names.{name_of};
 ghost use Rattle.reference.specs.Inputs.{ShowsSame};
 ghost use Rattle.reference.specs.Kept.{kept_in};
 ghost use Rattle.reference.specs.Status.{stream_status};
@@ -46,7 +46,7 @@ pub(crate) struct Stream {
 
 impl Model for Stream {
     ghost use Rattle.std.specs.Prelude.{◌≡◌, ◌≤◌, ◌*◌, length};
-    ghost use Rattle.cql_reader.specs.Views.{name_of};
+    ghost use Rattle.cql_reader.specs.Names.{name_of};
     ghost use Rattle.names.specs.Faults.{first_of};
     ghost use Rattle.names.specs.Views.{names_of};
     ghost use Rattle.reference.specs.Machine as machine;

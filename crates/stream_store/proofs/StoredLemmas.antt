@@ -8,7 +8,7 @@ use Rattle.values.specs.Row.{Row}
 use Rattle.values.specs.Window.{Element}
 use Rattle.op_queue.specs.Logs.{Closed, IsInOrder, IsClosing}
 use Rattle.cql_reader.specs.declared.name.Name.{Name}
-use Rattle.cql_reader.specs.Views.{name_of}
+use Rattle.cql_reader.specs.Names.{name_of}
 use Rattle.names.specs.Views.{names_of}
 use Rattle.reference.specs.Machine.{Stream}
 use Rattle.names.specs.Faults.{first_of}

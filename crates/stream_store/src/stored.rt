@@ -2,7 +2,7 @@
 ghost use Rattle.std.specs.Prelude.{◌≡◌, ◌≤◌, ◌++◌, ◌∷◌, [], suc, nat_abs, None, OnOk, OnErr, IfOk};
 ghost use Rattle.std.specs.Prelude.{◌+◌, Bool, IfSome, length, nat_lt};
 ghost use Rattle.values.specs.Window.{Element};
-ghost use Rattle.cql_reader.specs.Views.{name_of};
+ghost use Rattle.cql_reader.specs.Names.{name_of};
 ghost use Rattle.names.specs.Views.{names_of};
 ghost use Rattle.op_queue.specs.Cursors.{GainsClosed};
 ghost use Rattle.names.specs.Faults.{first_of};
@@ -47,7 +47,7 @@ pub struct Stored {
 
 impl Model for Stored {
     ghost use Rattle.std.specs.Prelude.{◌≡◌, length};
-    ghost use Rattle.cql_reader.specs.Views.{name_of};
+    ghost use Rattle.cql_reader.specs.Names.{name_of};
     ghost use Rattle.names.specs.Views.{names_of};
     ghost use Rattle.reference.specs.Machine as machine;
 

@@ -10,7 +10,7 @@ use Rattle.values.specs.Answers.{Resolved, answers_at, body, relation, relation_
 use Rattle.values.specs.StreamOperators.{operator_of}
 use Rattle.op_queue.specs.Entries.{Entry}
 use Rattle.to_stream.specs.Turns.{State}
-use Rattle.plan.specs.Nodes.{plan_value}
+use Rattle.plan.specs.Values.{plan_value}
 use Rattle.plan.proofs.Whole.{plan-body}
 use Rattle.reference.specs.Machine.{Machine, Registered, closed_answers, opens, until_for}
 use Rattle.laws_dataflow.specs.Nets.{Cell, Planned, Laid}

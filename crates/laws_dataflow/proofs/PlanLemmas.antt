@@ -12,7 +12,10 @@ use Rattle.values.specs.Relation.{Shape, Listed, Grouped}
 use Rattle.values.specs.Answers.{StreamOperator, Resolved, shown_at}
 use Rattle.names.specs.Split.{all_conjuncts, join_keys, join_keys_of, own, own_of, remaining}
 use Rattle.plan.specs.Nodes as plan
-use Rattle.plan.specs.Nodes.{Key, Window as WindowNode, Select, Join, Project, Group, Distinct, ToStream, node_value, values_of, last_of, plan_value}
+use Rattle.plan.specs.Values as valued
+use Rattle.plan.specs.Nodes.{Key, Window as WindowNode, Select, Join, Project, Group, Distinct}
+use Rattle.plan.specs.Nodes.{ToStream}
+use Rattle.plan.specs.Values.{node_value, values_of, last_of, plan_value}
 use Rattle.plan.specs.Build.{all_alone, end_nodes, joins_of, key_placed, moved, nodes_over, placed, plan_of, rest_nodes, rest_top, shape_node, source_nodes, top_of, tops}
 use Rattle.plan.proofs.Numbers.{Below, Rises, nodes-rise, value-at}
 use Rattle.plan.proofs.Values.{all_selected, values-length}
@@ -38,10 +41,10 @@ lawful (ToStream i op) = selected_same []
 value_node : (w : World) (ws all : List (List Row)) (v : ℕ → ℕ → List Row) (s : ℕ → Cell) (t : ℕ) → ((k : ℕ) → get_or ws k [] ≡ bag_at w k t) → ((i : ℕ) → get_or all i [] ≡ v i t) → (x : plan.Node)
     → node_value ws all x ≡ value_by w (node_of x) (input_of v s (left_of (node_of x))) (input_of v s (right_of (node_of x))) t
 value_node w ws all v s t b h (WindowNode k) = b k
-value_node w ws all v s t b h (Select i cs) = ap (plan.selected cs) (h i)
-value_node w ws all v s t b h (Join i j keys) = ap₂ (plan.joined keys) (h i) (h j)
-value_node w ws all v s t b h (Project i columns) = ap (plan.shaped_rows (Listed columns)) (h i)
-value_node w ws all v s t b h (Group i by items) = ap (plan.shaped_rows (Grouped by items)) (h i)
+value_node w ws all v s t b h (Select i cs) = ap (valued.selected cs) (h i)
+value_node w ws all v s t b h (Join i j keys) = ap₂ (valued.joined keys) (h i) (h j)
+value_node w ws all v s t b h (Project i columns) = ap (valued.shaped_rows (Listed columns)) (h i)
+value_node w ws all v s t b h (Group i by items) = ap (valued.shaped_rows (Grouped by items)) (h i)
 value_node w ws all v s t b h (Distinct i) = ap (distinct row_cmp) (h i)
 value_node w ws all v s t b h (ToStream i op) = h i ∙ sym (all_selected (v i t))
 

@@ -8,7 +8,7 @@ use Rattle.values.specs.Plain.{unbounded}
 use Rattle.values.specs.Answers.{Resolved, shown_at}
 use Rattle.plan.specs.Nodes as plan
 use Rattle.plan.specs.Nodes.{Window as WindowNode, Select, Join, Project, Group, Distinct, ToStream}
-use Rattle.plan.specs.Nodes.{values_of}
+use Rattle.plan.specs.Values.{values_of}
 use Rattle.plan.specs.Build.{plan_of}
 use Rattle.plan.specs.Paths.{takes}
 use Rattle.plan.specs.Scope.{Scoped, Tables}

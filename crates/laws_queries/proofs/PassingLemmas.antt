@@ -17,7 +17,7 @@ use Rattle.windows.proofs.WindowLaw.{passes_ticks}
 use Rattle.group.specs.Groups.{grouped}
 use Rattle.group.proofs.DistinctLemmas.{distinct_law}
 use Rattle.plan.specs.Nodes as plan
-use Rattle.plan.specs.Nodes.{shaped_rows}
+use Rattle.plan.specs.Values.{shaped_rows}
 use Rattle.reference.specs.Machine.{Machine, Registered}
 use Rattle.to_stream.specs.Turns as root
 use Rattle.operators.specs.Inboxes.{IsInboxWithin, ReadsOn, is_fed}

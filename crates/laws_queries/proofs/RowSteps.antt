@@ -23,7 +23,7 @@ use Rattle.operators.specs.Operators.{HasNamedColumns}
 use Rattle.operators.specs.States.{HasColumns, HasStood, IsNext, Takes, is_left, near_of, usable}
 use Rattle.operators.specs.declared.states.State.TheVariants as state
 use Rattle.plan.specs.Nodes as plan
-use Rattle.plan.specs.Nodes.{holds_all, shaped_rows}
+use Rattle.plan.specs.Values.{holds_all, shaped_rows}
 use Rattle.plan.specs.Views.{columns_at}
 use Rattle.laws_dataflow.specs.Nets.{Unary, World, Cell, at_window, at_unary, at_join, GoodOne, Turn, batch, unary}
 use Rattle.laws_dataflow.specs.Operators.{Tell, listing, selecting}

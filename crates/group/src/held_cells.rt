@@ -13,7 +13,7 @@ ghost use Rattle.group.specs.Turns.{cell_of, shown_in, near_at, out, shown_after
 ghost use Rattle.group.specs.Turns.{CountsUpTo, KeepsRoom};
 ghost use Rattle.group.specs.Groups.{no_columns};
 ghost use Rattle.group.specs.Keys.{AreWhole};
-ghost use Rattle.op_queue.specs.Entries.{IsForward};
+ghost use Rattle.op_queue.specs.Forward.{IsForward};
 ghost use Rattle.op_queue.specs.Queues.{HasGained, HasGrown};
 ghost use Rattle.op_queue.specs.declared.item.Item.TheVariants.{Tick};
 ghost use Rattle.group.specs.Runs.{changes_at, state_with};

@@ -19,7 +19,7 @@ ghost use Rattle.op_queue.specs.Flat.{with_signed};
 ghost use Rattle.group.specs.Runs.{changes_at, state_with};
 ghost use Rattle.group.specs.Plans.{plans_at, put_all, put_one, without_first, Begun};
 ghost use Rattle.group.specs.Groups.{no_columns};
-ghost use Rattle.op_queue.specs.Entries.{IsForward};
+ghost use Rattle.op_queue.specs.Forward.{IsForward};
 ghost use Rattle.op_queue.specs.Queues.{HasGained, HasGrown};
 ghost use Rattle.op_queue.specs.declared.item.Item.TheVariants.{Tick};
 ghost use Rattle.group.specs.Touched.{TouchedMore};

@@ -6,7 +6,7 @@ use Rattle.reference.specs.Replies.{Reply, Rows}
 use Rattle.reference.specs.Steps.{IsStep}
 use Rattle.reference.specs.declared.fault.Fault.{Fault}
 use Rattle.reference.specs.declared.fault.Fault.TheVariants as fault
-use Rattle.stream_store.specs.Closing.{QueuesGain}
+use Rattle.stream_store.specs.Gains.{QueuesGain}
 use Rattle.laws_engine.specs.Calls.{appended, heartbeat_taken, declared, dropped}
 use Rattle.laws_engine.specs.Engines.{IsExhausted, PlainEngine, remains_at}
 use Rattle.leases.specs.Queues.{LeavesQueues, LengthensQueues}

@@ -17,7 +17,8 @@ use Rattle.laws_queries.specs.Machines.{IsMachine, IsQuery, QueriesStand, widths
 use Rattle.laws_queries.specs.Counts.{count}
 use Rattle.laws_queries.proofs.MachineCounts.{keeps_limit, queries_stand}
 use Rattle.laws_queries.proofs.PlanCounts.{count_is, root_has_room}
-use Rattle.laws_engine.specs.Engines.{GoodEngine, HasGiven, PlainEngine, answers_in, query_at, remains_at}
+use Rattle.laws_engine.specs.Engines.{HasGiven, PlainEngine, answers_in, query_at, remains_at}
+use Rattle.laws_engine.specs.Good.{GoodEngine}
 use Rattle.laws_engine.proofs.AppendedLemmas.{is_query}
 use Rattle.laws_engine.proofs.PromiseLemmas.{remains_given}
 use Rattle.laws_engine.specs.Bounds.{HasFewEarlier, HaveFewClosed, instants}

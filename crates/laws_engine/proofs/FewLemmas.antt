@@ -17,7 +17,9 @@ use Rattle.laws_queries.specs.Counts.{count}
 use Rattle.laws_queries.proofs.MachineCounts.{keeps_limit, queries_stand}
 use Rattle.laws_queries.proofs.PlanCounts.{count_is, root_has_room}
 use Rattle.laws_engine.specs.Bounds.{HasFewEarlier, HaveFewClosed, instants}
-use Rattle.laws_engine.specs.Engines.{Broken, Dropped, GoodEngine, HasGiven, PlainEngine, PlainRemains, Running, answers_in, query_at, remains_at}
+use Rattle.laws_engine.specs.Engines.{Broken, Dropped, HasGiven, PlainEngine, PlainRemains, Running}
+use Rattle.laws_engine.specs.Engines.{answers_in, query_at, remains_at}
+use Rattle.laws_engine.specs.Good.{GoodEngine}
 use Rattle.laws_engine.specs.Openings.{forgotten, mark_in, marks_by}
 use Rattle.laws_engine.proofs.AnswerLemmas.{answers_are_few, answers_lie_below}
 use Rattle.laws_engine.proofs.AppendedLemmas.{is_query}

@@ -12,9 +12,8 @@ use Rattle.values.specs.Needs.{is_needed}
 use Rattle.column.specs.declared.batch.Side.{Side}
 use Rattle.column.specs.declared.batch.Side.TheVariants.{Left, Right}
 use Rattle.op_queue.specs.Logs.{Closed}
-use Rattle.operators.specs.Operators.{PlainOperator, first_ready, front_instant, ready, waiting}
-use Rattle.operators.specs.States.{usable}
-use Rattle.op_queue.specs.Items.{front_of}
+use Rattle.operators.specs.Ready.{PlainOperator, first_ready, front_instant, ready, usable, waiting}
+use Rattle.op_queue.specs.Entries.{front_of}
 use Rattle.plan.proofs.Lists.{each-filter}
 use Rattle.reference.specs.Machine.{Place, Registered, Stream, input_at}
 use Rattle.reference.specs.Opening.{all_instants, all_restarted, needs, needs_by, restart, restarted, with_kept}
@@ -24,14 +23,17 @@ use Rattle.reference.specs.Commands.{rows_of_each}
 use Rattle.laws_dataflow.specs.Plans.{IsPlanOf, arrivals_at}
 use Rattle.laws_queries.specs.Machines.{IsMachine, IsQuery, IsStream, KeepsItsLimit, columns_of, widths_of}
 use Rattle.stream_store.proofs.KeptLemmas.{by_arrival_filter}
-use Rattle.laws_queries.specs.Queries.{IsRunning, PlainQuery, log_at, operator_at, place_of}
+use Rattle.laws_queries.specs.Queries.{IsRunning}
+use Rattle.laws_queries.specs.Plain.{PlainQuery, log_at, operator_at, place_of}
 use Rattle.laws_queries.specs.Rows.{HasRows}
 use Rattle.laws_queries.specs.Forgetting.{KeepsFor}
 use Rattle.laws_queries.proofs.ForgetLemmas.{forgetting_runs, kept_stream, stream_kept, waits_kept}
 use Rattle.laws_queries.proofs.HeartbeatLemmas.{input_at_source}
 use Rattle.laws_queries.proofs.MachineCounts.{queries_stand}
 use Rattle.run_queue.specs.Slots.{slot}
-use Rattle.laws_engine.specs.Engines.{Broken, Dropped, GoodEngine, Goes, AreRemains, IsLease, PlainRemains, Lease, PlainEngine, Running, answers_in, is_leased, remains_at, query_at, slope_at, slot_in, slot_of}
+use Rattle.laws_engine.specs.Engines.{Broken, Dropped, PlainRemains, Lease, PlainEngine, Running}
+use Rattle.laws_engine.specs.Engines.{answers_in, is_leased, remains_at, query_at, slope_at}
+use Rattle.laws_engine.specs.Good.{GoodEngine, Goes, AreRemains, IsLease, slot_in, slot_of}
 use Rattle.laws_engine.specs.Openings.{opened}
 use Rattle.laws_engine.proofs.AppendedLemmas.{is_query}
 use Rattle.laws_engine.proofs.TakeLemmas.{equal_slots}

@@ -11,14 +11,16 @@ use Rattle.reference.specs.Machine.{Machine, Registered}
 use Rattle.reference.specs.Standing.{found_of}
 use Rattle.reference.specs.declared.fault.QueryFault.{QueryFault}
 use Rattle.laws_queries.specs.Machines.{IsQuery, widths_of}
-use Rattle.laws_queries.specs.Queries.{IsRunning, PlainQuery, source_of}
+use Rattle.laws_queries.specs.Queries.{IsRunning}
+use Rattle.laws_queries.specs.Plain.{PlainQuery, source_of}
 use Rattle.laws_queries.specs.Registrations.{HaveColumnNames, IsCoded, IsFit, IsFresh, IsNewest, MayMake, Starts, lengths_of}
 use Rattle.laws_queries.proofs.MachineCounts.{queries_stand}
 use Rattle.laws_queries.proofs.NewestLemmas.{registrations_stand}
 use Rattle.laws_queries.proofs.StartLemmas.{queries_start}
 use Rattle.query_runtime.specs.Turns.{source_among}
 use Rattle.laws_engine.specs.Calls.{IsRegistration, with_queries}
-use Rattle.laws_engine.specs.Engines.{Goes, GoodEngine, PlainEngine}
+use Rattle.laws_engine.specs.Engines.{PlainEngine}
+use Rattle.laws_engine.specs.Good.{Goes, GoodEngine}
 use Rattle.laws_engine.proofs.AgainLemmas.{runs_again}
 use Rattle.laws_engine.specs.Accepted.{GoodMachine, IsBegun, IsPlanOfText, newest}
 use Rattle.laws_engine.proofs.FoundLemmas.{found_fits, is_found, place_widths}

@@ -15,7 +15,8 @@ use Rattle.reference.specs.Machine.{Machine, Place, Registered, Stream, answers_
 use Rattle.reference.specs.Opening.{all_restarted, needs, needs_by, opening, restart, restarted, with_kept}
 use Rattle.reference.proofs.ClosedLemmas.{least_of_all}
 use Rattle.reference.specs.Alike.{AlikeMachines, AlikeQuery, AreAlike, MayCome, bare, later_answers, later_input, open_at}
-use Rattle.laws_forgetting.specs.Openings.{AreNumbered, IsMark, MayOpen, answers_below}
+use Rattle.laws_forgetting.specs.Openings.{AreNumbered, IsMark, MayOpen}
+use Rattle.laws_forgetting.specs.Below.{answers_below}
 use Rattle.laws_forgetting.specs.Partly.{ArePartlyAlike, MayOpenMarked, PartlyAlike, has_mark}
 use Rattle.laws_forgetting.proofs.AnswerLemmas.{HaveNeeded, opening_answers, parts, with_later}
 use Rattle.laws_forgetting.proofs.BareLemmas.{map_each}

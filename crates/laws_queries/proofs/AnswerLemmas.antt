@@ -8,7 +8,8 @@ use Rattle.op_queue.specs.Items.{entries_of}
 use Rattle.op_queue.specs.declared.item.Item.{Item}
 use Rattle.to_stream.specs.Turns as root
 use Rattle.turn.specs.Turns.{Answered, outs_at}
-use Rattle.operators.specs.Operators.{Belongs, PlainOperator}
+use Rattle.operators.specs.Operators.{Belongs}
+use Rattle.operators.specs.Ready.{PlainOperator}
 use Rattle.operators.specs.States.{near_of}
 use Rattle.reference.specs.Machine.{Machine, Registered}
 use Rattle.laws_dataflow.specs.Nets.{input_of}
@@ -18,7 +19,8 @@ use Rattle.laws_queries.specs.Counts.{most_rows}
 use Rattle.laws_queries.specs.Steps.{IsFirst, outs_at_first}
 use Rattle.laws_queries.specs.Rooms.{RootHasRoom}
 use Rattle.laws_queries.specs.Roots.{RootMade, RootMay, RootStands, RootStep}
-use Rattle.laws_queries.specs.Queries.{IsAnswered, IsRunning, MayFinish, RunsAt, log_at, node_at, operator_at}
+use Rattle.laws_queries.specs.Queries.{IsAnswered, IsRunning, MayFinish, RunsAt}
+use Rattle.laws_queries.specs.Plain.{log_at, node_at, operator_at}
 use Rattle.laws_queries.proofs.QueueLemmas.{first_waits, inbox_within, inboxes_finished}
 
 wide_rest : (w : ℕ) (q r : List (Entry Row)) → AreEntries w (q ++ r) → AreEntries w r

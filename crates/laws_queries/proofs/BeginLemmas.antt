@@ -10,8 +10,7 @@ use Rattle.values.specs.declared.resolved.Window.{Window}
 use Rattle.values.proofs.Split.{keeps-and}
 use Rattle.lane_kernels.specs.Steps.{StepsFit}
 use Rattle.op_queue.specs.Entries.{Entry, RowAt, TickAt}
-use Rattle.op_queue.specs.Logs.{Closed, instant_entries, is_shown, log_entries, row_entries}
-use Rattle.op_queue.specs.Cursors.{cursor_entries}
+use Rattle.op_queue.specs.Logs.{Closed, cursor_entries, instant_entries, is_shown, log_entries, row_entries}
 use Rattle.op_queue.specs.declared.cursor.Cursor.{Cursor}
 use Rattle.windows.proofs.WindowLaw.{begins_empty, shows_none}
 use Rattle.group.specs.Groups.{column_at}

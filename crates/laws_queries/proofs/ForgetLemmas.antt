@@ -10,16 +10,16 @@ use Rattle.values.specs.Window.{Element, input_of}
 use Rattle.values.specs.Needs.{is_needed}
 use Rattle.values.specs.Enough.{Each, HasNeeded}
 use Rattle.op_queue.specs.Entries.{Entry, TickAt}
-use Rattle.op_queue.specs.Cursors.{IsWithin, cursor_entries}
-use Rattle.op_queue.specs.Logs.{Closed, is_shown, row_entries, shown, instant_entries}
+use Rattle.op_queue.specs.Cursors.{IsWithin}
+use Rattle.op_queue.specs.Logs.{Closed, is_shown, row_entries, shown, instant_entries, cursor_entries}
 use Rattle.op_queue.specs.declared.cursor.Cursor.{Cursor}
 use Rattle.plan.specs.Nodes as plan
 use Rattle.plan.specs.Nodes.{Window, Select, Join, Project, Group, Distinct, ToStream}
 use Rattle.reference.specs.Machine.{Machine, Place, Registered, Stream, input_at, opens}
 use Rattle.reference.specs.Opening.{restarted, with_kept}
 use Rattle.stream_store.specs.Closing.{by_instant, closed_of}
-use Rattle.operators.specs.Inboxes.{IsInboxWithin, entries_in, is_fed}
-use Rattle.operators.specs.Operators.{PlainOperator, waiting as waiting_at}
+use Rattle.operators.specs.Inboxes.{IsInboxWithin, is_fed}
+use Rattle.operators.specs.Ready.{PlainOperator, entries_in, waiting as waiting_at}
 use Rattle.column.specs.declared.batch.Side.{Side}
 use Rattle.column.specs.declared.batch.Side.TheVariants.{Left, Right}
 use Rattle.operators.specs.declared.inboxes.Inbox.{Inbox}
@@ -38,7 +38,8 @@ use Rattle.laws_queries.specs.Forgetting.{KeepsFor}
 use Rattle.laws_queries.specs.Runs.{Runs}
 use Rattle.laws_queries.specs.Counts.{AreFew, AreWindowRowsFew, StaysWithin, most_rows, source_rows}
 use Rattle.laws_queries.specs.Widths.{width_at}
-use Rattle.laws_queries.specs.Queries.{HasInboxes, IsLeftInbox, IsRunning, Reads, log_at, no_log, node_at, operator_at, place_of, source_of, stream_log}
+use Rattle.laws_queries.specs.Queries.{HasInboxes, IsLeftInbox, IsRunning, Reads}
+use Rattle.laws_queries.specs.Plain.{log_at, no_log, node_at, operator_at, place_of, source_of, stream_log}
 use Rattle.laws_queries.proofs.ClosingLemmas.{by_instants, shown_now, shown_out}
 use Rattle.laws_queries.proofs.HeartbeatLemmas.{Gains, closed_at_source, relog, runs_beat}
 use Rattle.laws_queries.proofs.QueryLemmas.{same_count}

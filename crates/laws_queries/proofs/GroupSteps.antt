@@ -27,8 +27,9 @@ use Rattle.turn.specs.Turns.{Outs, Put, Answered, change_at, outs_at}
 use Rattle.turn.specs.declared.kinds.Kind.{Kind}
 use Rattle.turn.specs.declared.kinds.Kind.TheVariants as kind
 use Rattle.turn.specs.declared.outcomes.Change.{Change}
-use Rattle.operators.specs.Operators.{PlainOperator, HasNamedColumns, IsFinished}
-use Rattle.operators.specs.States.{HasColumns, HasStood, IsNext, Takes, near_of, usable}
+use Rattle.operators.specs.Operators.{HasNamedColumns, IsFinished}
+use Rattle.operators.specs.States.{HasColumns, HasStood, IsNext, Takes, near_of}
+use Rattle.operators.specs.Ready.{PlainOperator, usable}
 use Rattle.operators.specs.declared.states.State.{State}
 use Rattle.operators.specs.declared.states.State.TheVariants as state
 use Rattle.plan.specs.Nodes as plan

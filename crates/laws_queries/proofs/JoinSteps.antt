@@ -17,14 +17,16 @@ use Rattle.op_queue.specs.declared.item.Item.TheVariants.{Rows, Tick}
 use Rattle.op_queue.proofs.PathLemmas.{Leads-front_legal, rows_in-batch}
 use Rattle.join.specs.Pairs as pairs
 use Rattle.join.specs.Turns as join
-use Rattle.join.specs.Turns.{JoinState, SideState, met, matches, side_of, with_marks}
+use Rattle.join.specs.Turns.{met, matches, with_marks}
+use Rattle.join.specs.States.{JoinState, SideState, side_of}
 use Rattle.join.specs.Laws as joins
 use Rattle.join.proofs.LawLemmas.{left_law, right_law, tick_law}
 use Rattle.turn.specs.Turns.{Outs, Put, Answered, change_at, outs_at}
 use Rattle.turn.specs.declared.kinds.Kind.{Kind}
 use Rattle.turn.specs.declared.kinds.Kind.TheVariants as kind
-use Rattle.operators.specs.Operators.{PlainOperator, HasNamedColumns, IsFinished, waiting}
-use Rattle.operators.specs.States.{HasColumns, HasStood, IsNext, Takes, near_of, usable}
+use Rattle.operators.specs.Operators.{HasNamedColumns, IsFinished}
+use Rattle.operators.specs.States.{HasColumns, HasStood, IsNext, Takes, near_of}
+use Rattle.operators.specs.Ready.{PlainOperator, usable, waiting}
 use Rattle.operators.specs.declared.states.State.{State}
 use Rattle.operators.specs.declared.states.State.TheVariants as state
 use Rattle.plan.specs.Nodes as plan

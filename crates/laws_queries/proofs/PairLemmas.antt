@@ -17,7 +17,8 @@ use Rattle.group.proofs.BagLemmas.{after_row}
 use Rattle.group.proofs.FigureLemmas.{numbers_le}
 use Rattle.join.specs.Pairs.{fits, pair, joined}
 use Rattle.join.specs.Layouts.{other, order, chosen, agrees}
-use Rattle.join.specs.Turns.{SideState, met, beside, pairs_of, pairs, kept_of}
+use Rattle.join.specs.Turns.{met, beside, pairs_of, pairs, kept_of}
+use Rattle.join.specs.States.{SideState}
 use Rattle.join.specs.Laws.{StandsFor}
 use Rattle.join.proofs.LawLemmas.{weigh-met, joined_by_right}
 use Rattle.join.proofs.MatchLemmas.{fits_on, fits-right}

@@ -21,7 +21,8 @@ use Rattle.plan.specs.Values.{shaped_rows}
 use Rattle.reference.specs.Machine.{Machine, Registered}
 use Rattle.to_stream.specs.Turns as root
 use Rattle.operators.specs.Inboxes.{IsInboxWithin, ReadsOn, is_fed}
-use Rattle.operators.specs.Operators.{Belongs, PlainOperator, waiting}
+use Rattle.operators.specs.Operators.{Belongs}
+use Rattle.operators.specs.Ready.{PlainOperator, waiting}
 use Rattle.operators.specs.declared.inboxes.Inbox.{Inbox}
 use Rattle.operators.specs.declared.inboxes.Inbox.TheVariants.{First, Between}
 use Rattle.operators.specs.declared.states.State.{State}
@@ -40,7 +41,9 @@ use Rattle.laws_queries.specs.Widths.{AreEntries, AreRows, IsBothWide, IsGroupWi
 use Rattle.laws_queries.specs.Counts.{AreFew, StaysWithin, count, most_rows, tick_rows}
 use Rattle.laws_queries.specs.Passing.{IsQuiet, passed_state}
 use Rattle.laws_queries.specs.PassingCells.{CellsPass, OperatorPasses, RootPasses, left_at, right_at}
-use Rattle.laws_queries.specs.Queries.{HasInboxes, IsLeftInbox, IsRunning, Reads, RunsAt, RunsAtRoot, log_at, node_at, operator_at, place_of}
+use Rattle.laws_queries.specs.Queries.{HasInboxes, IsLeftInbox, IsRunning, Reads, RunsAt}
+use Rattle.laws_queries.specs.Queries.{RunsAtRoot}
+use Rattle.laws_queries.specs.Plain.{log_at, node_at, operator_at, place_of}
 use Rattle.laws_queries.specs.Steps.{Stands}
 use Rattle.laws_queries.proofs.CountLemmas.{stays_now}
 

@@ -21,7 +21,8 @@ use Rattle.reference.proofs.StreamLemmas.{alone, none_first, none_later}
 use Rattle.laws_queries.specs.Widths.{IsRow}
 use Rattle.laws_queries.specs.Machines.{IsMachine, IsStream, columns_of}
 use Rattle.stream_store.specs.Stored.{IsByArrival}
-use Rattle.laws_queries.specs.Queries.{ReadsRows, elements_at, place_of}
+use Rattle.laws_queries.specs.Queries.{ReadsRows, elements_at}
+use Rattle.laws_queries.specs.Plain.{place_of}
 use Rattle.laws_queries.specs.Rows.{AreSourceWidths, HasRows, HaveRows, RowsStand}
 
 -- ARRIVALS

@@ -20,7 +20,8 @@ use Rattle.row_nodes.specs.Project.{AreColumns, columns_in, projected, projected
 use Rattle.row_nodes.proofs.RowLemmas.{filter_by}
 use Rattle.turn.specs.Turns.{Put, change_at, outs_at}
 use Rattle.operators.specs.Operators.{HasNamedColumns}
-use Rattle.operators.specs.States.{HasColumns, HasStood, IsNext, Takes, is_left, near_of, usable}
+use Rattle.operators.specs.States.{HasColumns, HasStood, IsNext, Takes, near_of}
+use Rattle.operators.specs.Ready.{is_left, usable}
 use Rattle.operators.specs.declared.states.State.TheVariants as state
 use Rattle.plan.specs.Nodes as plan
 use Rattle.plan.specs.Values.{holds_all, shaped_rows}

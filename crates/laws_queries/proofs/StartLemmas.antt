@@ -21,8 +21,8 @@ use Rattle.group.specs.Turns as groups
 use Rattle.group.proofs.LawLemmas.{begins}
 use Rattle.join.specs.Turns as join
 use Rattle.turn.specs.declared.kinds.Kind.TheVariants as kind
-use Rattle.operators.specs.Inboxes.{entries_in, is_fed}
-use Rattle.operators.specs.Operators.{PlainOperator, waiting}
+use Rattle.operators.specs.Inboxes.{is_fed}
+use Rattle.operators.specs.Ready.{PlainOperator, entries_in, waiting}
 use Rattle.operators.specs.declared.inboxes.Inbox.{Inbox}
 use Rattle.operators.specs.declared.states.State.TheVariants as state
 use Rattle.plan.specs.Nodes as plan
@@ -45,7 +45,8 @@ use Rattle.laws_dataflow.proofs.AnswerLemmas.{shaped}
 use Rattle.laws_dataflow.proofs.PlanLemmas.{Shaped}
 use Rattle.laws_dataflow.proofs.StartLemmas.{machine_starts}
 use Rattle.laws_queries.specs.Counts.{AreFew, count, most_rows}
-use Rattle.laws_queries.specs.Queries.{HasInboxes, IsRunning, log_at, no_operator, node_at, operator_at, place_of, stream_log}
+use Rattle.laws_queries.specs.Queries.{HasInboxes, IsRunning}
+use Rattle.laws_queries.specs.Plain.{log_at, no_operator, node_at, operator_at, place_of, stream_log}
 use Rattle.laws_queries.specs.Machines.{columns_of, widths_of}
 use Rattle.laws_queries.specs.Rows.{AreSourceWidths}
 use Rattle.laws_queries.specs.Registrations.{IsCoded, IsFit, IsFresh, IsTextWindow, MayMake, Starts, lengths_of}
@@ -350,7 +351,7 @@ module _ (vs : List ℕ) (m : Machine) (q : Registered) (fit : IsFit vs q.meanin
         let f : FitsAt vs ws k (plan.Window s) = subst (λ n. FitsAt vs ws k (node_of n)) e (fits_at any_node k l) in
         let low : s < length q.places = omega (arith, f.fits, stands.wide.places) in
         let is : node_at q k ≡ plan.Window s = node_is any_node k l ∙ ap node_of e in
-        let until : (log_at m q k).until ≤ q.first = subst (λ x. (stream_log m.streams (Rattle.laws_queries.specs.Queries.source_of q x)).until ≤ q.first) (sym is) (until_low s low) in
+        let until : (log_at m q k).until ≤ q.first = subst (λ x. (stream_log m.streams (Rattle.laws_queries.specs.Plain.source_of q x)).until ≤ q.first) (sym is) (until_low s low) in
         source_begins windows vs ws m q (log_at m q k) k (operator_at os k) narrow_ws s coded.shows text low f.width (some_of vs s fit.some f.fits) (fresh.inputs s) (fresh.came s) until
         (subst (λ n. IsMade windows vs ws (lengths_of q) q.first n (operator_at os k)) e (made_here k l))
 

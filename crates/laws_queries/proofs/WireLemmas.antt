@@ -17,7 +17,7 @@ use Rattle.laws_dataflow.specs.Plans.{below_root, consumer, consumer_of, world_o
 use Rattle.laws_dataflow.proofs.AnswerLemmas.{query_laid, shaped}
 use Rattle.laws_dataflow.proofs.PlanLemmas.{Shaped}
 use Rattle.reference.specs.Machine.{Machine, Registered}
-use Rattle.laws_queries.specs.Queries.{node_at}
+use Rattle.laws_queries.specs.Plain.{node_at}
 
 -- the operator takes what k puts out, on this side
 abbrev pub TakesAt : ℕ → plan.Node → Side → Type 0

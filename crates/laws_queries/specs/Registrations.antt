@@ -11,7 +11,7 @@ use Rattle.values.specs.Resolved.{window_of}
 use Rattle.values.specs.Window as shown
 use Rattle.values.specs.declared.resolved.Window.{Window}
 use Rattle.row_nodes.specs.Steps.{truths_needed}
-use Rattle.operators.specs.Operators.{PlainOperator}
+use Rattle.operators.specs.Ready.{PlainOperator}
 use Rattle.plan.specs.Views.{nodes_of}
 use Rattle.plan.specs.declared.node.Node.{Node}
 use Rattle.physical_plans.specs.Beginnings.{AreMade, HaveNarrowRows, IsMakeable}

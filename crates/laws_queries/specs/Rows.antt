@@ -10,7 +10,8 @@ use Rattle.laws_dataflow.specs.Plans.{below_root}
 use Rattle.laws_queries.specs.Widths.{width_at}
 use Rattle.laws_queries.specs.Machines.{IsMachine, columns_of}
 use Rattle.stream_store.specs.Stored.{IsByArrival}
-use Rattle.laws_queries.specs.Queries.{ReadsRows, node_at, place_of}
+use Rattle.laws_queries.specs.Queries.{ReadsRows}
+use Rattle.laws_queries.specs.Plain.{node_at, place_of}
 
 -- the elements came one after the other, with numbers below
 -- the next one, and their values are of the answers' range

@@ -18,11 +18,12 @@ use Rattle.group.specs.Groups.{once_each}
 use Rattle.group.specs.Turns.{GroupState, cell_of}
 use Rattle.group.specs.Laws as groups
 use Rattle.join.specs.Pairs as pairs
-use Rattle.join.specs.Turns.{JoinState}
+use Rattle.join.specs.States.{JoinState}
 use Rattle.join.specs.Laws as joins
 use Rattle.to_stream.specs.Turns as root
 use Rattle.turn.specs.declared.kinds.Kind.TheVariants as kind
-use Rattle.operators.specs.Operators.{Belongs, PlainOperator, waiting}
+use Rattle.operators.specs.Operators.{Belongs}
+use Rattle.operators.specs.Ready.{PlainOperator, waiting}
 use Rattle.operators.specs.declared.states.State.{State}
 use Rattle.operators.specs.declared.states.State.TheVariants as state
 use Rattle.plan.specs.Nodes as plan

@@ -11,14 +11,16 @@ use Rattle.reference.specs.Commands.{register_tests}
 use Rattle.reference.specs.Machine.{Machine, Registered, Stream}
 use Rattle.reference.specs.Named.{name_of_registered}
 use Rattle.reference.proofs.NamedLemmas.{registered-place, registered_new}
-use Rattle.laws_queries.specs.Queries.{PlainQuery, node_at}
+use Rattle.laws_queries.specs.Plain.{PlainQuery, node_at}
 use Rattle.laws_queries.specs.Registrations.{HaveColumnNames}
 use Rattle.laws_engine.specs.Bounds.{HaveFewClosed}
 use Rattle.laws_engine.proofs.InstantLemmas.{registered_closed}
-use Rattle.run_queue.specs.Slots.{without_query}
+use Rattle.run_queue.specs.Changes.{without_query}
 use Rattle.run_queue.specs.declared.slots.Slot.{Slot}
 use Rattle.laws_engine.specs.Calls.{registered, with_query}
-use Rattle.laws_engine.specs.Engines.{GoodEngine, IsIn, Lease, PlainEngine, PlainRemains, Running, query_at, remains_at}
+use Rattle.laws_engine.specs.Engines.{Lease, PlainEngine, PlainRemains, Running, query_at}
+use Rattle.laws_engine.specs.Engines.{remains_at}
+use Rattle.laws_engine.specs.Good.{GoodEngine, IsIn}
 use Rattle.laws_engine.proofs.AskLemmas.{may_ask}
 use Rattle.laws_engine.proofs.PromiseLemmas.{is_slot}
 use Rattle.laws_engine.proofs.RegisteredLemmas.{more_here, remains_before, remains_more}

@@ -13,14 +13,17 @@ use Rattle.reference.specs.declared.fault.Fault.{Fault}
 use Rattle.reference.specs.declared.fault.Fault.TheVariants.{Query, BadName, NameTaken, BadColumns, TooMany, UnknownStream, UnknownQuery, BadWidth, ValueRange, InstantRange, Late, Backward, Leap, StreamFull, BadLimit, Broken, UnknownLease, Stranger, TooManyLeases, HistoryFull, OutOfMemory, Foreign}
 use Rattle.reference.specs.World.{Does, Looks, MayLackMemory, Step, World, heartbeat_step, unless}
 use Rattle.reference.proofs.StepLemmas.{lacked}
-use Rattle.stream_store.specs.Closing.{closing_at, closing_in, unless_faulty}
+use Rattle.stream_store.specs.Gains.{closing_at, closing_in, unless_faulty}
 use Rattle.laws_queries.proofs.NewestLemmas.{registrations_stand}
-use Rattle.laws_queries.specs.Queries.{PlainQuery}
-use Rattle.run_queue.specs.Slots.{slot, with_next}
+use Rattle.laws_queries.specs.Plain.{PlainQuery}
+use Rattle.run_queue.specs.Slots.{slot}
+use Rattle.run_queue.specs.Changes.{with_next}
 use Rattle.run_queue.specs.declared.slots.Slot.{Slot}
 use Rattle.laws_engine.specs.Asks.{IsOperator}
 use Rattle.laws_engine.specs.Calls.{IsHeartbeat, closed_over, heartbeat_taken}
-use Rattle.laws_engine.specs.Engines.{GoodEngine, HasSlots, IsIn, PlainEngine, Running, next_at, query_at, remains_at, slope_at, slot_at, slot_of}
+use Rattle.laws_engine.specs.Engines.{PlainEngine, Running, next_at, query_at, remains_at, slope_at}
+use Rattle.laws_engine.specs.Engines.{slot_at}
+use Rattle.laws_engine.specs.Good.{GoodEngine, HasSlots, IsIn, slot_of}
 use Rattle.laws_engine.specs.Resting.{IsResting}
 use Rattle.laws_engine.proofs.InstantLemmas.{few_closed_stand}
 use Rattle.laws_engine.proofs.AskLemmas.{may_ask}

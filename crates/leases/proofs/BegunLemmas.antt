@@ -12,7 +12,7 @@ use Rattle.reference.specs.Finds.{Finds}
 use Rattle.reference.specs.Machine as machine
 use Rattle.reference.specs.Machine.{Machine, Registered, first_for}
 use Rattle.reference.specs.declared.fault.Fault.{Fault}
-use Rattle.laws_queries.specs.Queries.{PlainQuery}
+use Rattle.laws_queries.specs.Plain.{PlainQuery}
 use Rattle.laws_queries.specs.Registrations.{lengths_of}
 use Rattle.query_runtime.specs.Turns.{IsBeginning}
 use Rattle.laws_engine.specs.Accepted.{IsBegun, IsPlanOfText, newest}

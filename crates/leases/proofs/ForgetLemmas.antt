@@ -11,7 +11,8 @@ use Rattle.reference.specs.Named.{name_of_registered}
 use Rattle.reference.specs.Opening.{all_restarted, needs_by, restart, with_kept}
 use Rattle.laws_queries.specs.Registrations.{HasColumnNames, HaveColumnNames}
 use Rattle.laws_engine.specs.Bounds.{HaveFewClosed}
-use Rattle.laws_engine.specs.Engines.{GoodEngine, IsIn, PlainEngine, answers_in}
+use Rattle.laws_engine.specs.Engines.{PlainEngine, answers_in}
+use Rattle.laws_engine.specs.Good.{GoodEngine, IsIn}
 use Rattle.laws_engine.specs.Openings.{forgotten, marks_by}
 use Rattle.laws_engine.proofs.FewLemmas.{forgotten_few}
 use Rattle.laws_engine.proofs.ForgottenLemmas.{forgotten_good}

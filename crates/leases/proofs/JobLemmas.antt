@@ -6,14 +6,16 @@ use Rattle.std.proofs.Math.Seq.{map-set_same}
 use Rattle.std.proofs.lemmas.List.{get_or-set_same, length-map, length-set, set-set, set_comm}
 use Rattle.std.proofs.lemmas.Option.{slice_get_within}
 use Rattle.reference.specs.Machine.{Registered}
-use Rattle.laws_queries.specs.Queries.{PlainQuery, log_at}
+use Rattle.laws_queries.specs.Plain.{PlainQuery, log_at}
 use Rattle.query_runtime.specs.Turns.{HasOperator, log_of}
 use Rattle.laws_queries.specs.Registrations.{HaveColumnNames}
-use Rattle.run_queue.specs.Slots.{changed}
+use Rattle.run_queue.specs.Changes.{changed}
 use Rattle.run_queue.specs.declared.slots.Slot.{Slot}
 use Rattle.laws_engine.specs.Asks.{IsOperator}
 use Rattle.laws_engine.specs.Bounds.{HaveFewClosed}
-use Rattle.laws_engine.specs.Engines.{Dropped, HasSlots, IsIn, PlainEngine, PlainRemains, Running, query_at, remains_at, slot_at, slot_of}
+use Rattle.laws_engine.specs.Engines.{Dropped, PlainEngine, PlainRemains, Running, query_at}
+use Rattle.laws_engine.specs.Engines.{remains_at, slot_at}
+use Rattle.laws_engine.specs.Good.{HasSlots, IsIn, slot_of}
 use Rattle.laws_engine.proofs.AskLemmas.{may_ask}
 use Rattle.laws_engine.proofs.BackLemmas.{remains_here, remains_there}
 use Rattle.leases.specs.Alone.{one_was_less_own}

@@ -8,9 +8,10 @@ use Rattle.std.proofs.lemmas.List.Elements.{filter-append}
 use Rattle.plan.specs.Nodes as plan
 use Rattle.reference.specs.Commands.{change}
 use Rattle.reference.specs.Machine.{Place, Registered}
-use Rattle.laws_queries.specs.Queries.{PlainQuery, node_at, place_of}
+use Rattle.laws_queries.specs.Plain.{PlainQuery, node_at, place_of}
 use Rattle.laws_engine.specs.Calls.{is_reading}
-use Rattle.laws_engine.specs.Engines.{Dropped, IsIn, PlainEngine, PlainRemains, Running}
+use Rattle.laws_engine.specs.Engines.{Dropped, PlainEngine, PlainRemains, Running}
+use Rattle.laws_engine.specs.Good.{IsIn}
 use Rattle.laws_engine.specs.Resting.{IsResting}
 use Rattle.leases.specs.Readers.{reader, reader_in, readers_from, readers_of, runs, windows_from}
 use Rattle.leases.specs.declared.reader.WindowReader.{WindowReader}

@@ -9,7 +9,7 @@ use Rattle.laws_engine.specs.Bounds.{HaveFewClosed}
 use Rattle.arrayvec.specs.ArrayVec.{ArrayVec}
 use Rattle.values.specs.Row.{Row}
 use Rattle.names.specs.Faults.{first_of}
-use Rattle.operators.specs.Operators.{PlainOperator}
+use Rattle.operators.specs.Ready.{PlainOperator}
 use Rattle.reference.proofs.StepLemmas.{get_or-map, set-change}
 use Rattle.reference.specs.CallViews.{handed_of}
 use Rattle.reference.specs.Commands.{Take, change, first_fault, of_query, take_tests, took}
@@ -23,9 +23,11 @@ use Rattle.reference.specs.declared.fault.Fault.{Fault}
 use Rattle.reference.specs.declared.fault.Fault.TheVariants as fault
 use Rattle.reference.specs.declared.fault.Fault.TheVariants.{Query, BadName, NameTaken, BadColumns, TooMany, UnknownStream, UnknownQuery, BadWidth, ValueRange, InstantRange, Late, Backward, Leap, StreamFull, BadLimit, UnknownLease, Stranger, TooManyLeases, HistoryFull, OutOfMemory, Foreign}
 use Rattle.laws_queries.specs.Registrations.{HaveColumnNames}
-use Rattle.laws_queries.specs.Queries.{PlainQuery, operator_at}
+use Rattle.laws_queries.specs.Plain.{PlainQuery, operator_at}
 use Rattle.laws_engine.specs.Calls.{IsTake, remains_after, taken}
-use Rattle.laws_engine.specs.Engines.{Broken, Dropped, GoodEngine, IsExhausted, IsIn, PlainEngine, PlainRemains, Running, answers_in, query_at, remains_at}
+use Rattle.laws_engine.specs.Engines.{Broken, Dropped, IsExhausted, PlainEngine, PlainRemains}
+use Rattle.laws_engine.specs.Engines.{Running, answers_in, query_at, remains_at}
+use Rattle.laws_engine.specs.Good.{GoodEngine, IsIn}
 use Rattle.laws_engine.proofs.TakeLemmas.{take_good}
 use Rattle.leases.specs.Readers.{readers_from, readers_of, runs}
 use Rattle.leases.proofs.ListedLemmas.{readers_changed}

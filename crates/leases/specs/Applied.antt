@@ -6,14 +6,16 @@ use Rattle.turn.specs.Turns.{outs_in}
 use Rattle.turn.specs.declared.parts.Parts.{Parts}
 use Rattle.turn.specs.declared.turns.Turn.{Turn}
 use Rattle.reference.specs.Machine.{Registered, Stream}
-use Rattle.laws_queries.specs.Queries.{PlainQuery, change_at_first, operator_at}
+use Rattle.laws_queries.specs.Queries.{change_at_first}
+use Rattle.laws_queries.specs.Plain.{PlainQuery, operator_at}
 use Rattle.laws_queries.specs.Steps.{outs_at_first}
 use Rattle.query_runtime.specs.Turns.{CanFinish, CanPut, HasBatches, HasFinished, HasOperator}
 use Rattle.query_runtime.specs.Turns.{HasPut, log_of, wire_at}
-use Rattle.run_queue.specs.Slots.{Stands, changed, without_query}
+use Rattle.run_queue.specs.Changes.{Stands, changed, without_query}
 use Rattle.run_queue.specs.declared.slots.Slot.{Slot}
 use Rattle.laws_engine.specs.Calls.{IsOf, broken, broken_at, others}
-use Rattle.laws_engine.specs.Engines.{IsIn, Lease, PlainEngine, PlainRemains, Running, next_at}
+use Rattle.laws_engine.specs.Engines.{Lease, PlainEngine, PlainRemains, Running, next_at}
+use Rattle.laws_engine.specs.Good.{IsIn}
 use Rattle.laws_engine.specs.Engines.{query_at, remains_at, slot_at}
 use Rattle.leases.specs.Asked.{HasOperatorAt}
 use Rattle.leases.specs.Turns.{IsOut}

@@ -3,10 +3,11 @@ use Rattle.std.specs.Prelude.{ℕ, ◌≡◌, ◌≢◌, ◌+◌, ◌*◌, ◌<�
 use Rattle.std.specs.Prelude.{map, set, slice_get, slice_index_or}
 use Rattle.std.specs.List.{AllByRecursion}
 use Rattle.reference.specs.Machine.{Registered, Stream}
-use Rattle.laws_queries.specs.Queries.{PlainQuery}
+use Rattle.laws_queries.specs.Plain.{PlainQuery}
 use Rattle.laws_queries.specs.Registrations.{HaveColumnNames}
 use Rattle.laws_engine.specs.Bounds.{HaveFewClosed}
-use Rattle.laws_engine.specs.Engines.{Dropped, GoodEngine, PlainEngine, PlainRemains, Running}
+use Rattle.laws_engine.specs.Engines.{Dropped, PlainEngine, PlainRemains, Running}
+use Rattle.laws_engine.specs.Good.{GoodEngine}
 use Rattle.laws_engine.specs.Engines.{query_at, remains_at}
 use Rattle.leases.specs.Alone.{HaveRunOwn, MayRunAlone, OwnStep, one_was_less_own}
 use Rattle.leases.specs.Passing.{AreSlotsOf}

@@ -1,6 +1,6 @@
 -- What is lent of a query, to be changed in place.
 use Rattle.std.specs.Borrow.{Fml, Lends, MutBor}
-use Rattle.laws_queries.specs.Queries.{PlainQuery}
+use Rattle.laws_queries.specs.Plain.{PlainQuery}
 use Rattle.query_runtime.specs.contracts.queries.RunningQuery as query
 use Rattle.leases.specs.contracts.remains.Remains.{the_row}
 use Rattle.leases.specs.declared.remains.Remains.{Remains}

@@ -3,7 +3,7 @@ use Rattle.std.specs.Prelude.{ℕ, ◌≡◌, ◌++◌, suc, Bool, true, false, 
 use Rattle.std.specs.Prelude.{length, map, Result, Ok, Err, IfOk}
 use Rattle.column.specs.declared.batch.Side.TheVariants.{Left, Right}
 use Rattle.op_queue.specs.Logs.{Closed}
-use Rattle.operators.specs.Operators.{waiting}
+use Rattle.operators.specs.Ready.{waiting}
 use Rattle.plan.specs.Nodes as plan
 use Rattle.reference.specs.Commands.{Drop, first_fault}
 use Rattle.reference.specs.Looks.{Look, Seen, SeesAt, SeesFound, answers, look_at, peek_rows}
@@ -14,7 +14,7 @@ use Rattle.reference.specs.World.{query_named}
 use Rattle.reference.specs.World as world
 use Rattle.reference.specs.declared.fault.Fault.{Fault}
 use Rattle.reference.specs.declared.fault.Fault.TheVariants as fault
-use Rattle.laws_queries.specs.Queries.{PlainQuery, log_at, operator_at}
+use Rattle.laws_queries.specs.Plain.{PlainQuery, log_at, operator_at}
 use Rattle.laws_engine.specs.Engines.{Broken, Dropped, PlainEngine, PlainRemains, Running}
 use Rattle.laws_engine.specs.Engines.{answers_in, query_at, remains_at, upto_in, world_of}
 use Rattle.laws_engine.specs.Promises.{AreCompleteUpto}

@@ -4,14 +4,15 @@ use Rattle.std.specs.Prelude.{Option, Some, None, List, [], ◌∷◌, ◌++◌,
 use Rattle.std.specs.Option.{option_to_list}
 use Rattle.column.specs.declared.batch.Side.{Side}
 use Rattle.plan.specs.Nodes as plan
-use Rattle.operators.specs.Operators.{ready}
+use Rattle.operators.specs.Ready.{ready}
 use Rattle.reference.specs.Machine.{Registered, Stream}
-use Rattle.laws_queries.specs.Queries.{operator_at, place_of}
+use Rattle.laws_queries.specs.Plain.{operator_at, place_of}
 use Rattle.query_runtime.specs.Turns.{log_of}
-use Rattle.run_queue.specs.Slots.{changed}
+use Rattle.run_queue.specs.Changes.{changed}
 use Rattle.run_queue.specs.declared.slots.Slot.{Slot}
 use Rattle.laws_engine.specs.Engines.{Broken, Dropped, PlainEngine, PlainRemains, Running, next_at}
-use Rattle.laws_engine.specs.Engines.{query_at, remains_at, slot_of}
+use Rattle.laws_engine.specs.Engines.{query_at, remains_at}
+use Rattle.laws_engine.specs.Good.{slot_of}
 use Rattle.leases.specs.declared.reader.WindowReader.{WindowReader}
 use Rattle.leases.specs.declared.state.EngineState.{EngineState}
 

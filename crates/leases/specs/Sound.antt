@@ -3,7 +3,8 @@ use Rattle.std.specs.Prelude.{◌≡◌, ◌≤◌, Bool, true, false, length, m
 use Rattle.turn.specs.declared.turns.Turn.{Turn}
 use Rattle.laws_queries.specs.Registrations.{HaveColumnNames}
 use Rattle.laws_engine.specs.Bounds.{HaveFewClosed}
-use Rattle.laws_engine.specs.Engines.{Broken, Dropped, GoodEngine, IsIn, PlainRemains, Running}
+use Rattle.laws_engine.specs.Engines.{Broken, Dropped, PlainRemains, Running}
+use Rattle.laws_engine.specs.Good.{GoodEngine, IsIn}
 use Rattle.leases.specs.Readers.{readers_of}
 use Rattle.leases.specs.Shown.{engine_in}
 use Rattle.leases.specs.Undropped.{undropped_of}

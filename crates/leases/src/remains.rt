@@ -2,7 +2,7 @@
 ghost use Rattle.std.specs.Borrow.{sem};
 ghost use Rattle.std.specs.Prelude.{◌≡◌, IfOk};
 ghost use Rattle.laws_engine.specs.Engines.{Broken, Running, answers_in};
-ghost use Rattle.laws_queries.specs.Queries.{PlainQuery};
+ghost use Rattle.laws_queries.specs.Plain.{PlainQuery};
 ghost use Rattle.leases.specs.Looks.{is_broken};
 ghost use Rattle.leases.specs.Readers.{runs};
 ghost use Rattle.leases.specs.Views.{remains_of, waiting_in};

@@ -1,15 +1,13 @@
 -- What operators hold, as plain values: the excerpt that
 -- an item needs of it, and what is held after a turn.
-use Rattle.std.specs.Prelude.{ℕ, ◌≡◌, Bool, true, false, not, Option, None}
-use Rattle.values.specs.Row.{Row}
+use Rattle.std.specs.Prelude.{◌≡◌}
 use Rattle.column.specs.declared.batch.Side.{Side}
-use Rattle.column.specs.declared.batch.Side.TheVariants.{Left, Right}
 use Rattle.op_queue.specs.declared.item.Item.{Item}
 use Rattle.group.specs.Turns as groups
 use Rattle.group.specs.Turns.{RoomFor}
 use Rattle.join.specs.Laws.{MayLeave}
 use Rattle.join.specs.Turns as join
-use Rattle.join.specs.Turns.{side_of}
+use Rattle.join.specs.States.{side_of}
 use Rattle.to_stream.specs.Turns as root
 use Rattle.windows.specs.Widths.{IsItemWide}
 use Rattle.windows.specs.Windows as window
@@ -20,28 +18,6 @@ use Rattle.turn.specs.declared.excerpts.Excerpt.TheVariants as near
 use Rattle.turn.specs.declared.outcomes.Change.{Change}
 use Rattle.operators.specs.declared.states.State.{State}
 use Rattle.operators.specs.declared.states.State.TheVariants.{Window, Nothing, Join, Groups, Root}
-
--- the instant of the last tick that a root took
-abbrev pub last_in : State → Option ℕ
-last_in (Window s) = None
-last_in Nothing = None
-last_in (Join s) = None
-last_in (Groups s) = None
-last_in (Root s) = s.last
-
--- WHICH SIDE CAN BE USED
--- an operator with one input uses the left side, a join
--- any side that has not ticked in its current instant
-abbrev pub is_left : Side → Bool
-is_left Left = true
-is_left Right = false
-
-abbrev pub usable : State → Side → Bool
-usable (Window s) side = is_left side
-usable Nothing side = is_left side
-usable (Join s) side = not (side_of s side).ticked
-usable (Groups s) side = is_left side
-usable (Root s) side = is_left side
 
 -- THE EXCERPT
 abbrev pub near_of : State → Side → Item → Excerpt

@@ -17,8 +17,8 @@ use Rattle.row_nodes.specs.Steps.{IsOfOneSource}
 use Rattle.windows.specs.Windows.{Begins, IsFormed, WindowState}
 use Rattle.turn.specs.declared.kinds.Kind.{Kind}
 use Rattle.turn.specs.declared.kinds.Kind.TheVariants as kind
-use Rattle.operators.specs.Inboxes.{IsInboxWithin, entries_in, is_fed}
-use Rattle.operators.specs.Operators.{PlainOperator}
+use Rattle.operators.specs.Inboxes.{IsInboxWithin, is_fed}
+use Rattle.operators.specs.Ready.{PlainOperator, entries_in}
 use Rattle.operators.specs.declared.inboxes.Inbox.{Inbox}
 use Rattle.operators.specs.declared.inboxes.Inbox.TheVariants.{Between}
 use Rattle.operators.specs.declared.states.State.{State}

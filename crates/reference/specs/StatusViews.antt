@@ -1,3 +1,4 @@
+-- TO BELIEVE: the theorem rests on these definitions, and no proof can check them.
 -- What the code answers of streams and queries, as what is defined of them.
 use Rattle.std.specs.Prelude.{map, string_bytes}
 use Rattle.cql_reader.specs.Names.{name_of}

@@ -11,7 +11,8 @@ ghost use Rattle.reference.specs.Commands.{catalog_of};
 ghost use Rattle.reference.specs.Told.{IsTold};
 ghost use Rattle.reference.specs.declared.fault.Fault.TheVariants.{StreamFull};
 ghost use Rattle.stream_store.specs.Beside.{limited_tests};
-ghost use Rattle.stream_store.specs.Closing.{by_instant, closed_of, closing_of};
+ghost use Rattle.stream_store.specs.Closing.{by_instant, closed_of};
+ghost use Rattle.stream_store.specs.Gains.{closing_of};
 ghost use Rattle.stream_store.specs.Kept.{HasRest, SaysKept, count_closed, kept_stream};
 
 use crate::arrivals::Arrivals;

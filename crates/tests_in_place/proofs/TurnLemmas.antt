@@ -5,7 +5,8 @@ use Rattle.std.proofs.lemmas.List.Elements.{All-append, All-filter}
 use Rattle.values.specs.Row.{Row}
 use Rattle.values.specs.Window.{Window}
 use Rattle.lane_kernels.specs.declared.condition.Step.{Step}
-use Rattle.op_queue.specs.Entries.{Entry, IsForward, RowAt, TickAt, instant_of}
+use Rattle.op_queue.specs.Entries.{Entry, RowAt, TickAt}
+use Rattle.op_queue.specs.Forward.{IsForward, instant_of}
 use Rattle.op_queue.specs.Items.{item_instant}
 use Rattle.op_queue.specs.declared.item.Item.{Item}
 use Rattle.op_queue.specs.declared.item.Item.TheVariants.{Rows, Tick}

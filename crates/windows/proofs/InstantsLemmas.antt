@@ -6,7 +6,8 @@ use Rattle.std.proofs.lemmas.List.{drop-map, length-map, map-append, take-map, t
 use Rattle.std.proofs.lemmas.List.Sums.{length-filter, count_by-le-length}
 use Rattle.values.specs.Row.{Row}
 use Rattle.std.proofs.lemmas.List.Elements.{All-nil, All-drop, All-filter, All-map, All-take}
-use Rattle.op_queue.specs.Entries.{Entry, IsForward, RowAt, TickAt}
+use Rattle.op_queue.specs.Entries.{Entry, RowAt, TickAt}
+use Rattle.op_queue.specs.Forward.{IsForward}
 use Rattle.op_queue.specs.Queues.{HasGained, Waiting, first_begins}
 use Rattle.op_queue.proofs.GainLemmas.{gained-item, gained-more, gained-same}
 use Rattle.op_queue.specs.declared.item.Item.{Item}

@@ -4,7 +4,7 @@ ghost use Rattle.std.specs.Prelude.{length};
 ghost use Rattle.std.specs.List.{flat_map};
 ghost use Rattle.values.specs.Resolved as told;
 ghost use Rattle.values.specs.Window.{Instants, LastRows};
-ghost use Rattle.op_queue.specs.Entries.{IsForward};
+ghost use Rattle.op_queue.specs.Forward.{IsForward};
 ghost use Rattle.op_queue.specs.Items.{entries_of};
 ghost use Rattle.op_queue.specs.Queues.{HasGained, HasGrown};
 ghost use Rattle.windows.specs.Widths.{IsItemWide};

@@ -13,7 +13,7 @@ ghost use Rattle.reference.specs.World.{Does, Drains, IsPlenty, Looks, append_st
 ghost use Rattle.reference.specs.World.{drain_step, drop_step, heartbeat_step, peek_at};
 ghost use Rattle.reference.specs.World.{register_step, take_step};
 ghost use Rattle.reference.specs.declared.fault.Fault.TheVariants.{OutOfMemory, TooManyLeases};
-ghost use Rattle.stream_store.specs.Closing.{QueuesGain};
+ghost use Rattle.stream_store.specs.Gains.{QueuesGain};
 ghost use Rattle.run_queue.specs.Slots.{first_of};
 ghost use Rattle.laws_engine.specs.Calls.{appended, declared, dropped, heartbeat_taken};
 ghost use Rattle.laws_engine.specs.Openings.{forgotten};

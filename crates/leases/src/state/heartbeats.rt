@@ -2,10 +2,11 @@
 ghost use Rattle.std.specs.Prelude.{◌≡◌, ◌<◌, ◌++◌, IfOk, OnErr, OnOk, length, slice_get};
 ghost use Rattle.std.specs.List.{AllByRecursion};
 ghost use Rattle.reference.specs.World.{Does, heartbeat_step};
-ghost use Rattle.stream_store.specs.Closing.{QueuesGain};
+ghost use Rattle.stream_store.specs.Gains.{QueuesGain};
 ghost use Rattle.laws_engine.specs.Calls.{heartbeat_taken};
-ghost use Rattle.laws_queries.specs.Queries.{PlainQuery};
-ghost use Rattle.laws_engine.specs.Engines.{GoodEngine, Running};
+ghost use Rattle.laws_queries.specs.Plain.{PlainQuery};
+ghost use Rattle.laws_engine.specs.Engines.{Running};
+ghost use Rattle.laws_engine.specs.Good.{GoodEngine};
 ghost use Rattle.leases.specs.Asked.{HasOperatorAt};
 ghost use Rattle.query_runtime.specs.Turns.{HasOperator};
 ghost use Rattle.leases.specs.Queues.{LengthensQueues};

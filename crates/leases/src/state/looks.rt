@@ -5,7 +5,7 @@ ghost use Rattle.reference.specs.Commands.{Drop, first_fault};
 ghost use Rattle.reference.specs.Machine as machine;
 ghost use Rattle.reference.specs.Machine.{Registered};
 ghost use Rattle.reference.specs.Told.{IsTold};
-ghost use Rattle.laws_queries.specs.Queries.{PlainQuery};
+ghost use Rattle.laws_queries.specs.Plain.{PlainQuery};
 ghost use Rattle.laws_engine.specs.Engines.{Running, is_leased, next_at, query_at, remains_at};
 ghost use Rattle.laws_engine.specs.Engines.{slope_at, slot_at};
 ghost use Rattle.leases.specs.Asked.{HasOperatorAt, IsRunningAt};

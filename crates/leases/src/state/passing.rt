@@ -1,7 +1,7 @@
 //! Lets a query pass instants at which it has nothing to do, within a drain.
 ghost use Rattle.std.specs.Prelude.{◌≡◌, ◌+◌, ◌<◌, ⊤, IfOk, MatchOption, Some, false, true};
 ghost use Rattle.run_queue.specs.Slots.{first_of};
-ghost use Rattle.laws_queries.specs.Queries.{PlainQuery};
+ghost use Rattle.laws_queries.specs.Plain.{PlainQuery};
 ghost use Rattle.laws_engine.specs.Engines.{Running};
 ghost use Rattle.query_runtime.specs.Passing.{AreQuiet, HavePassed};
 ghost use Rattle.leases.specs.Applied.{GivesNothing};

@@ -3,7 +3,7 @@ use Rattle.std.specs.List.{position}
 use Rattle.std.proofs.lemmas.List.{length-map}
 use Rattle.reference.specs.Named.{name_of_registered}
 use Rattle.name_table.specs.Names.{bears}
-use Rattle.run_queue.specs.Slots.{without_query}
+use Rattle.run_queue.specs.Changes.{without_query}
 use Rattle.laws_engine.specs.Calls.{registered}
 use Rattle.leases.specs.Readers.{windows_from}
 use Rattle.leases.specs.Registering.{with_first}

@@ -2,9 +2,10 @@
 use Rattle.std.proofs.Common.{◌≡◌, ◌==◌, not, filter, List, map, set, ap, ◌∙◌, get_or}
 use Rattle.std.proofs.lemmas.List.{set-set}
 use Rattle.turn.specs.declared.parts.Parts.{Parts}
-use Rattle.run_queue.specs.Slots.{without_query}
+use Rattle.run_queue.specs.Changes.{without_query}
 use Rattle.laws_engine.specs.Calls.{broken_at, of_others}
-use Rattle.laws_engine.specs.Engines.{Broken, Dropped, PlainRemains, Running, remains_at, upto_at}
+use Rattle.laws_engine.specs.Engines.{Broken, Dropped, PlainRemains, Running, remains_at}
+use Rattle.laws_engine.specs.Good.{upto_at}
 use Rattle.leases.specs.Shown.{engine_in}
 use Rattle.leases.specs.Views.{remains_of}
 use Rattle.leases.specs.declared.reader.WindowReader.{WindowReader}

@@ -2,7 +2,8 @@ use Rattle.std.proofs.Common.{◌≡◌, ◌∙◌, ap, map, refl, rules, subst,
 use Rattle.laws_queries.specs.Machines.{IsMachine}
 use Rattle.laws_queries.specs.Registrations.{HaveColumnNames}
 use Rattle.laws_engine.specs.Bounds.{HaveFewClosed}
-use Rattle.laws_engine.specs.Engines.{GoodEngine, IsIn, PlainEngine}
+use Rattle.laws_engine.specs.Engines.{PlainEngine}
+use Rattle.laws_engine.specs.Good.{GoodEngine, IsIn}
 use Rattle.leases.specs.Readers.{readers_of}
 use Rattle.leases.specs.Sound.{is_gone}
 use Rattle.leases.specs.Undropped.{undropped_of}

@@ -1,6 +1,6 @@
 -- A query that runs is one running query.
 use Rattle.std.proofs.Common.{refl, sym, ◌∙◌, subst}
-use Rattle.laws_queries.specs.Queries.{PlainQuery}
+use Rattle.laws_queries.specs.Plain.{PlainQuery}
 use Rattle.query_runtime.specs.Passing.{AreQuiet, HavePassed}
 use Rattle.laws_engine.proofs.BackLemmas.{same_plain}
 use Rattle.leases.proofs.state.passing.pass_in.Goals as goal

@@ -1,3 +1,4 @@
+-- TO BELIEVE: the theorem rests on these definitions, and no proof can check them.
 -- Lower envelopes of a chart, and the slopes that are read off
 -- one (Chain: Babcock, Babu, Datar and Motwani, SIGMOD 2003).
 use Rattle.std.specs.Prelude.{ℕ, ◌-◌, ◌<◌, ◌≤◌, ◌≡◌, cond, nat_le, List, [], ◌∷◌, length, map, drop}

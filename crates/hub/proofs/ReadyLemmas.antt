@@ -17,7 +17,8 @@ use Rattle.leases.specs.declared.limits.TheConstants.{LEASE_NUMBERS, MAX_LEASES}
 use Rattle.std.specs.Prelude.{IsTrue}
 use Rattle.leases.specs.Openings.{opening_in}
 use Rattle.histories.specs.Histories.{Replays}
-use Rattle.hub.specs.Steps.{Hands, IsReady, IsReplayed, PlainLocked, SeesReady, engine_at, with_engine}
+use Rattle.hub.specs.Steps.{Hands, IsReplayed, PlainLocked, engine_at, with_engine}
+use Rattle.hub.specs.Workers.{IsReady, SeesReady}
 
 -- a look that found something ready
 pub ready_at : (l : PlainLocked) (r : Bool) → SeesReady l r → IsTrue r → (x : PlainLocked) × IsReady x

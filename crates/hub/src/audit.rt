@@ -3,7 +3,8 @@ ghost use Rattle.std.specs.Prelude.{◌≡◌, ◌<◌, ◌+◌, ◌^◌, ◌↔
 ghost use Rattle.std.specs.Prelude.{length};
 ghost use Rattle.histories.specs.Histories as histories;
 ghost use Rattle.hub.specs.Audits.{IsAccounted, alone};
-ghost use Rattle.hub.specs.Ledgers.{Agrees, IsLedger, PlainLedger, ledger_in, numbers_of};
+ghost use Rattle.hub.specs.Ledgers.{Agrees, IsLedger, PlainLedger, numbers_of};
+ghost use Rattle.hub.specs.LedgerViews.{ledger_in};
 ghost use Rattle.hub.specs.Seats.{IsAudited, PlainSeat, unsettled};
 
 use crate::ledger::Ledger;

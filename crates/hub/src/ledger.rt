@@ -1,7 +1,7 @@
 //! Keeps which calls of each seat are settled, and the numbers of those that are due.
 ghost use Rattle.std.specs.Prelude.{◌≡◌, ◌+◌, ◌<◌, ◌^◌, IfOk, OnOk, length};
-ghost use Rattle.hub.specs.Ledgers.{HasPlace, account_in, cleared, fresh, ledger_in, noted};
-ghost use Rattle.hub.specs.Ledgers.{opened_for};
+ghost use Rattle.hub.specs.Ledgers.{cleared, noted};
+ghost use Rattle.hub.specs.LedgerViews.{HasPlace, account_in, fresh, ledger_in, opened_for};
 
 use crate::settled::Settled;
 use std::alloc::{AllocError, Global};

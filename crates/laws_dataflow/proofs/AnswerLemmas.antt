@@ -16,7 +16,9 @@ use Rattle.reference.specs.Machine.{Machine, Registered, closed_answers, opens, 
 use Rattle.laws_dataflow.specs.Nets.{Cell, Planned, Laid}
 use Rattle.laws_dataflow.specs.Operators.{net_of}
 use Rattle.laws_dataflow.specs.Queries.{before, given_at, given_from, GoodQuery, Idle}
-use Rattle.laws_dataflow.specs.Plans.{AreWide, IsPlanOf, bags_of, below_root, consumer_of, inputs_of, least_of, value_of, world_of}
+use Rattle.laws_dataflow.specs.Plans.{AreWide, IsPlanOf, bags_of, consumer_of, inputs_of, least_of}
+use Rattle.laws_dataflow.specs.Plans.{value_of, world_of}
+use Rattle.laws_dataflow.specs.Roots.{below_root}
 use Rattle.laws_dataflow.proofs.LeastLemmas.{closed_from, least_all, least_open}
 use Rattle.laws_dataflow.proofs.PlanLemmas.{Shaped, planned, shaped_plan, top_least, top_value, window_bags}
 use Rattle.laws_dataflow.specs.Laws.{TurnsKeep}

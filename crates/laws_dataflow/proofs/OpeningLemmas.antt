@@ -17,7 +17,9 @@ use Rattle.laws_dataflow.specs.Nets.{Cell, Planned}
 use Rattle.laws_dataflow.specs.Operators.{net_of}
 use Rattle.laws_dataflow.specs.Worlds.{Keeps, forgotten}
 use Rattle.laws_dataflow.specs.Queries.{GoodQuery, GoodRoot}
-use Rattle.laws_dataflow.specs.Plans.{AreWide, IsPlanOf, below_root, comes, consumer_of, inputs_of, least_of, value_of, world_by, world_of}
+use Rattle.laws_dataflow.specs.Plans.{AreWide, IsPlanOf, comes, consumer_of, inputs_of, least_of}
+use Rattle.laws_dataflow.specs.Plans.{value_of, world_by, world_of}
+use Rattle.laws_dataflow.specs.Roots.{below_root}
 use Rattle.laws_dataflow.proofs.AnswerLemmas.{query_laid, query_least, query_planned, shaped}
 use Rattle.laws_dataflow.proofs.BagLemmas.{same_of}
 use Rattle.laws_dataflow.proofs.ForgetLemmas.{opens_ahead, query_forgets}

@@ -21,7 +21,8 @@ use Rattle.row_bags.proofs.OrderLemmas.{weigh-without}
 use Rattle.to_stream.specs.Turns.{State, near, out}
 use Rattle.to_stream.specs.Law.{Stands, StepLaw}
 use Rattle.laws_dataflow.specs.Nets.{batch}
-use Rattle.laws_dataflow.specs.Queries.{before, behind, given_at, given_from, GoodRoot}
+use Rattle.laws_dataflow.specs.Queries.{before, given_at, given_from, GoodRoot}
+use Rattle.laws_dataflow.specs.Roots.{behind}
 use Rattle.laws_dataflow.proofs.BagLemmas.{same_perm}
 
 -- A BAG WITH SIGNED ROWS ADDED, where it may be cut anywhere

@@ -10,7 +10,8 @@ use Rattle.reference.specs.Machine.{Machine, Registered, closed_answers}
 use Rattle.laws_dataflow.specs.Nets.{Cell, Feeds, Turn, batch}
 use Rattle.laws_dataflow.specs.Queries.{GoodQuery, Idle}
 use Rattle.laws_dataflow.specs.Operators.{net_of}
-use Rattle.laws_dataflow.specs.Plans.{AreWide, IsPlanOf, below_root, consumer_of, value_of}
+use Rattle.laws_dataflow.specs.Plans.{AreWide, IsPlanOf, consumer_of, value_of}
+use Rattle.laws_dataflow.specs.Roots.{below_root}
 use Rattle.laws_dataflow.specs.Plans.{world_of}
 
 -- THE QUERY as the machine has it: its operators below the root have these

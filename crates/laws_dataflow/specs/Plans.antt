@@ -1,7 +1,7 @@
 -- A registered query's plan as a net: the consumer of each operator,
 -- the values of all, and what the machine knows of its streams.
 use Rattle.std.specs.Prelude.{◌≡◌, ℕ, suc, ◌-◌, ◌<◌, cond, max, min, List, [], ◌∷◌, ◌++◌, map}
-use Rattle.std.specs.Prelude.{length, get_or}
+use Rattle.std.specs.Prelude.{length, get_or, slice_get}
 use Rattle.values.specs.Row.{Row}
 use Rattle.values.specs.Window.{Element, Window}
 use Rattle.values.specs.Plain.{unbounded}
@@ -12,7 +12,6 @@ use Rattle.plan.specs.Values.{values_of}
 use Rattle.plan.specs.Build.{plan_of}
 use Rattle.plan.specs.Paths.{takes}
 use Rattle.plan.specs.Scope.{Scoped, Tables}
-use Rattle.std.specs.Prelude.{slice_get}
 use Rattle.std.specs.Option.{option_map_or}
 use Rattle.reference.specs.Machine.{Machine, Place, Registered, Stream, opens, input_at}
 use Rattle.laws_dataflow.specs.Nets.{World}
@@ -26,10 +25,6 @@ consumer i n (x ∷ xs) = cond (takes i x) n (consumer i (suc n) xs)
 
 abbrev pub consumer_of : List plan.Node → ℕ → ℕ
 consumer_of ns i = consumer i 0 ns
-
--- how many operators stand below the root
-abbrev pub below_root : List plan.Node → ℕ
-below_root ns = length ns - 1
 
 -- VALUES
 -- the value of the operator k at the instant t, where the windows show these bags

@@ -8,7 +8,8 @@ use Rattle.plan.specs.Nodes as plan
 use Rattle.plan.specs.Nodes.{Window, Select, Join, Project, Group, Distinct, ToStream}
 use Rattle.reference.specs.Machine.{Machine, Registered}
 use Rattle.laws_dataflow.specs.Nets.{Cell}
-use Rattle.laws_dataflow.specs.Plans.{below_root, world_of}
+use Rattle.laws_dataflow.specs.Plans.{world_of}
+use Rattle.laws_dataflow.specs.Roots.{below_root}
 use Rattle.laws_queries.specs.Runs.{Runs, RunsRoot}
 use Rattle.laws_queries.specs.Widths.{width_at}
 use Rattle.laws_engine.specs.Calls.{with_queries, with_taken}

@@ -13,8 +13,9 @@ use Rattle.laws_forgetting.proofs.OpeningLemmas.{opened_alike, opened_partly}
 use Rattle.laws_forgetting.proofs.PartlyLemmas.{alike_of_fewer}
 use Rattle.laws_dataflow.specs.Operators.{net_of}
 use Rattle.laws_dataflow.specs.Plans as plans
-use Rattle.laws_dataflow.specs.Plans.{below_root, consumer_of, inputs_of, least_of, value_of}
-use Rattle.laws_dataflow.specs.Queries.{behind, given_from}
+use Rattle.laws_dataflow.specs.Plans.{consumer_of, inputs_of, least_of, value_of}
+use Rattle.laws_dataflow.specs.Roots.{behind, below_root}
+use Rattle.laws_dataflow.specs.Queries.{given_from}
 use Rattle.laws_dataflow.proofs.AnswerLemmas.{over_is, query_laid, query_least, query_planned, query_value, shaped}
 use Rattle.laws_dataflow.proofs.ForgetLemmas.{opens_ahead}
 use Rattle.laws_dataflow.proofs.IdleLemmas.{all_below}

@@ -10,7 +10,8 @@ use Rattle.reference.specs.Inputs.{are_signed}
 use Rattle.reference.specs.Machine.{Machine, Registered, answers_from, closed_answers, input_at, until_for}
 use Rattle.laws_dataflow.specs.Laws as nets
 use Rattle.laws_dataflow.specs.Nets.{Cell, at_unary}
-use Rattle.laws_dataflow.specs.Plans.{bags_of, below_root, value_of}
+use Rattle.laws_dataflow.specs.Plans.{bags_of, value_of}
+use Rattle.laws_dataflow.specs.Roots.{below_root}
 use Rattle.laws_dataflow.proofs.AnswerLemmas.{query_value}
 use Rattle.laws_queries.specs.Rooms.{HasFewSince}
 use Rattle.laws_queries.specs.Machines.{IsMachine, IsQuery, QueriesStand, widths_of}

@@ -19,7 +19,8 @@ use Rattle.stream_store.specs.Closing.{closed_of}
 use Rattle.laws_dataflow.specs.Laws.{IsGood}
 use Rattle.laws_dataflow.specs.Nets.{Cell}
 use Rattle.laws_dataflow.specs.Operators.{net_of}
-use Rattle.laws_dataflow.specs.Plans.{below_root, comes, inputs_of, value_in, world_by, world_of}
+use Rattle.laws_dataflow.specs.Plans.{comes, inputs_of, value_in, world_by, world_of}
+use Rattle.laws_dataflow.specs.Roots.{below_root}
 use Rattle.laws_dataflow.specs.Queries.{GoodQuery}
 use Rattle.laws_queries.specs.Counts.{AreFew, StaysWithin, most_rows}
 use Rattle.laws_queries.specs.Machines.{IsQuery, columns_of, widths_of}

@@ -9,7 +9,8 @@ use Rattle.plan.proofs.Lists.{each-append, each-left, each-right}
 use Rattle.reference.specs.Machine.{Machine, Registered, answers_from, input_at, until_for}
 use Rattle.reference.specs.Opening.{all_restarted, needs_by, restart}
 use Rattle.laws_dataflow.specs.Laws as nets
-use Rattle.laws_dataflow.specs.Plans.{bags_of, below_root, value_of}
+use Rattle.laws_dataflow.specs.Plans.{bags_of, value_of}
+use Rattle.laws_dataflow.specs.Roots.{below_root}
 use Rattle.laws_dataflow.proofs.AnswerLemmas.{query_value}
 use Rattle.laws_queries.specs.Rooms.{HasFewSince}
 use Rattle.laws_queries.specs.Machines.{IsMachine, IsQuery, QueriesStand, widths_of}

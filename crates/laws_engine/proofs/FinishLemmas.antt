@@ -18,7 +18,7 @@ use Rattle.operators.specs.declared.inboxes.Inbox.TheVariants.{First, Between}
 use Rattle.physical_plans.specs.Wiring.{wire_from}
 use Rattle.plan.proofs.Lists.{by_test}
 use Rattle.reference.specs.Machine.{Registered}
-use Rattle.laws_dataflow.specs.Plans.{below_root}
+use Rattle.laws_dataflow.specs.Roots.{below_root}
 use Rattle.laws_queries.specs.Laws.{RootsRun, TurnsRun}
 use Rattle.laws_queries.specs.Machines.{IsQuery, widths_of}
 use Rattle.laws_queries.specs.Queries.{IsRunning, MayFeed}

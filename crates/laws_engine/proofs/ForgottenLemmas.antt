@@ -3,7 +3,7 @@ use Rattle.std.proofs.Common.{◌≡◌, ℕ, zero, suc, ◌<◌, Option, Some, 
 use Rattle.std.specs.Prelude.{slice_get, unwrap_or}
 use Rattle.std.specs.Option.{option_map}
 use Rattle.column.specs.declared.batch.Side.{Side}
-use Rattle.laws_dataflow.specs.Queries.{behind}
+use Rattle.laws_dataflow.specs.Roots.{behind}
 use Rattle.reference.specs.Machine.{Registered}
 use Rattle.reference.specs.Opening.{restart}
 use Rattle.laws_queries.specs.Plain.{PlainQuery, log_at, operator_at}

@@ -19,7 +19,7 @@ use Rattle.reference.specs.Machine.{Machine, Registered}
 use Rattle.stream_store.specs.Closing.{closed_of}
 use Rattle.stream_store.specs.Gains.{QueuesGain}
 use Rattle.stream_store.specs.Stored.{IsByArrival}
-use Rattle.laws_dataflow.specs.Plans.{below_root}
+use Rattle.laws_dataflow.specs.Roots.{below_root}
 use Rattle.laws_queries.specs.Machines.{widths_of}
 use Rattle.laws_queries.specs.Queries.{HasInboxes, IsRunning, elements_at}
 use Rattle.laws_queries.specs.Plain.{PlainQuery, log_at, no_log, node_at, operator_at, place_of, source_of, stream_log}

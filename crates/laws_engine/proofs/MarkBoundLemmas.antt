@@ -12,7 +12,8 @@ use Rattle.plan.proofs.Lists.{each-append, each-left, each-right}
 use Rattle.reference.specs.Machine.{Registered, Stream, answers_from, input_at, until_for}
 use Rattle.reference.specs.Opening.{restart, with_kept}
 use Rattle.laws_dataflow.specs.Nets.{Cell, at_unary}
-use Rattle.laws_dataflow.specs.Plans.{below_root, value_of}
+use Rattle.laws_dataflow.specs.Plans.{value_of}
+use Rattle.laws_dataflow.specs.Roots.{below_root}
 use Rattle.laws_dataflow.specs.Queries.{before, given_at, given_from}
 use Rattle.laws_queries.specs.Counts.{count}
 use Rattle.laws_queries.specs.Machines.{QueriesStand, widths_of}

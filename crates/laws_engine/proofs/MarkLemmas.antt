@@ -8,8 +8,8 @@ use Rattle.laws_dataflow.specs.Laws.{IsGood}
 use Rattle.laws_dataflow.specs.Laws as nets
 use Rattle.laws_dataflow.specs.Nets.{Cell}
 use Rattle.laws_dataflow.specs.Operators.{net_of}
-use Rattle.laws_dataflow.specs.Plans.{below_root, consumer_of, least_of, value_of, world_of}
-use Rattle.laws_dataflow.specs.Queries.{behind}
+use Rattle.laws_dataflow.specs.Plans.{consumer_of, least_of, value_of, world_of}
+use Rattle.laws_dataflow.specs.Roots.{behind, below_root}
 use Rattle.laws_dataflow.proofs.AnswerLemmas.{query_laid, query_least, query_planned, shaped}
 use Rattle.laws_dataflow.proofs.ForgetLemmas.{opens_ahead}
 use Rattle.laws_dataflow.proofs.IdleLemmas.{all_below}

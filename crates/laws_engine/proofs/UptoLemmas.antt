@@ -17,8 +17,7 @@ use Rattle.reference.specs.Commands.{change, took}
 use Rattle.reference.specs.Machine.{Registered}
 use Rattle.reference.specs.Opening.{all_restarted, restart}
 use Rattle.reference.specs.World.{World}
-use Rattle.laws_dataflow.specs.Plans.{below_root}
-use Rattle.laws_dataflow.specs.Queries.{behind}
+use Rattle.laws_dataflow.specs.Roots.{behind, below_root}
 use Rattle.laws_queries.specs.Plain.{PlainQuery, operator_at}
 use Rattle.laws_queries.specs.Registrations.{lengths_of}
 use Rattle.laws_engine.specs.Accepted.{IsBegun}

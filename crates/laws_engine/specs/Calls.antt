@@ -11,7 +11,7 @@ use Rattle.plan.specs.Nodes as plan
 use Rattle.reference.specs.Commands.{Append, Declare, Drop, Heartbeat, Register, Take, after}
 use Rattle.reference.specs.Commands.{change, first_fault}
 use Rattle.reference.specs.Machine.{Machine, Registered}
-use Rattle.laws_dataflow.specs.Plans.{below_root}
+use Rattle.laws_dataflow.specs.Roots.{below_root}
 use Rattle.laws_queries.specs.Queries.{IsAnswered, IsTurned}
 use Rattle.laws_queries.specs.Plain.{PlainQuery, log_at, operator_at, place_of}
 use Rattle.stream_store.specs.Gains.{QueuesGain}

@@ -12,8 +12,7 @@ use Rattle.envelope.specs.Fraction.{Fraction, fraction}
 use Rattle.plan.specs.Paths.{plan_slopes}
 use Rattle.reference.specs.Machine.{Machine, Registered, closed_answers}
 use Rattle.reference.specs.World.{World}
-use Rattle.laws_dataflow.specs.Plans.{below_root}
-use Rattle.laws_dataflow.specs.Queries.{behind}
+use Rattle.laws_dataflow.specs.Roots.{behind, below_root}
 use Rattle.laws_queries.specs.Plain.{PlainQuery, log_at, operator_at}
 use Rattle.run_queue.specs.Slots.{slot}
 use Rattle.run_queue.specs.declared.slots.Slot.{Slot}

@@ -13,7 +13,8 @@ use Rattle.operators.specs.Ready.{PlainOperator}
 use Rattle.operators.specs.States.{near_of}
 use Rattle.reference.specs.Machine.{Machine, Registered}
 use Rattle.laws_dataflow.specs.Nets.{input_of}
-use Rattle.laws_dataflow.specs.Plans.{below_root, value_of}
+use Rattle.laws_dataflow.specs.Plans.{value_of}
+use Rattle.laws_dataflow.specs.Roots.{below_root}
 use Rattle.laws_queries.specs.Widths.{AreEntries, width_at}
 use Rattle.laws_queries.specs.Counts.{most_rows}
 use Rattle.laws_queries.specs.Steps.{IsFirst, outs_at_first}

@@ -23,7 +23,8 @@ use Rattle.laws_dataflow.specs.Laws as nets
 use Rattle.laws_dataflow.specs.Laws.{IsGood}
 use Rattle.laws_dataflow.specs.Windows.{AreFrom, opened}
 use Rattle.laws_dataflow.specs.Nets.{World, Cell, at_window, at_unary, at_join}
-use Rattle.laws_dataflow.specs.Plans.{arrivals_at, below_root, world_of}
+use Rattle.laws_dataflow.specs.Plans.{arrivals_at, world_of}
+use Rattle.laws_dataflow.specs.Roots.{below_root}
 use Rattle.laws_dataflow.proofs.MachineLemmas.{append_inputs, append_opens, arriving, machine_appends}
 use Rattle.operators.specs.Ready.{PlainOperator}
 use Rattle.laws_queries.specs.Runs.{Runs, RunsRoot, RunsWindow}

@@ -29,7 +29,8 @@ use Rattle.laws_dataflow.specs.Laws.{IsGood}
 use Rattle.laws_dataflow.specs.Windows.{Brings, opened}
 use Rattle.laws_dataflow.specs.Nets.{Cell, Node, at_window, at_unary, at_join, cell_next, window, unary, join, GoodCell}
 use Rattle.laws_dataflow.specs.Operators.{net_of, node_of}
-use Rattle.laws_dataflow.specs.Plans.{below_root, comes, consumer_of, inputs_of, least_of, value_of, world_of}
+use Rattle.laws_dataflow.specs.Plans.{comes, consumer_of, inputs_of, least_of, value_of, world_of}
+use Rattle.laws_dataflow.specs.Roots.{below_root}
 use Rattle.laws_dataflow.specs.Worlds.{fed_cell}
 use Rattle.laws_dataflow.proofs.AnswerLemmas.{query_laid, query_planned}
 use Rattle.laws_dataflow.proofs.ForgetLemmas.{opens_ahead}

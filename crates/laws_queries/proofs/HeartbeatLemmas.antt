@@ -29,7 +29,8 @@ use Rattle.laws_dataflow.specs.Windows.{AreBelow, Brings, opened}
 use Rattle.laws_dataflow.specs.Worlds.{Beat, fed_cell}
 use Rattle.laws_dataflow.specs.Nets.{Node, window, unary, join, World, Cell, at_window, at_unary, at_join, cell_shown}
 use Rattle.laws_dataflow.specs.Operators.{net_of, node_of}
-use Rattle.laws_dataflow.specs.Plans.{below_root, comes, inputs_of, world_of}
+use Rattle.laws_dataflow.specs.Plans.{comes, inputs_of, world_of}
+use Rattle.laws_dataflow.specs.Roots.{below_root}
 use Rattle.laws_dataflow.proofs.MachineLemmas.{heartbeat_comes, heartbeat_inputs, machine_beats}
 use Rattle.laws_dataflow.proofs.AnswerLemmas.{shaped}
 use Rattle.laws_dataflow.proofs.PlanLemmas.{Shaped}

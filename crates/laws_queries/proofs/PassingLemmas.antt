@@ -32,7 +32,8 @@ use Rattle.laws_dataflow.specs.Laws.{IsGood}
 use Rattle.laws_dataflow.specs.Nets.{World, Cell, Input, at_window, at_unary, at_join, cell_next, left_of, right_of, input_of, past}
 use Rattle.laws_dataflow.specs.Operators.{net_of, node_of, selecting, listing, grouping, once}
 use Rattle.laws_dataflow.specs.Passes.{Clears, reached, ended, ticked, Passes, stays, window_passes, unary_passes, join_passes}
-use Rattle.laws_dataflow.specs.Plans.{below_root, least_of, value_of, world_of}
+use Rattle.laws_dataflow.specs.Plans.{least_of, value_of, world_of}
+use Rattle.laws_dataflow.specs.Roots.{below_root}
 use Rattle.laws_dataflow.proofs.AnswerLemmas.{query_laid, query_planned}
 use Rattle.laws_dataflow.proofs.PassLemmas.{query_passes}
 use Rattle.laws_dataflow.proofs.QuietLemmas.{group_quiet, root_moved, root_silent, shows_held}

@@ -26,7 +26,8 @@ use Rattle.reference.specs.declared.limits.TheConstants.{MAX_STREAM_ROWS, MAX_RO
 use Rattle.reference.specs.Machine.{Machine, Registered, Stream, Place, input_at}
 use Rattle.laws_dataflow.specs.Nets.{left_of, right_of}
 use Rattle.laws_dataflow.specs.Operators.{net_of}
-use Rattle.laws_dataflow.specs.Plans.{arrivals_at, bags_of, below_root, comes, inputs_of, value_of}
+use Rattle.laws_dataflow.specs.Plans.{arrivals_at, bags_of, comes, inputs_of, value_of}
+use Rattle.laws_dataflow.specs.Roots.{below_root}
 use Rattle.laws_dataflow.proofs.PlanLemmas.{shaped_plan}
 use Rattle.laws_queries.specs.Counts.{count, most_rows, most_rows_by, rows_of, source_rows, sources_of, tick_rows, tick_rows_by}
 use Rattle.laws_queries.specs.Rooms.{CountsArrivals, HasShortInputs, IsBounded, PlanHasRoom, RootHasRoom}

@@ -22,7 +22,8 @@ use Rattle.reference.specs.Machine.{Machine, Registered}
 use Rattle.laws_dataflow.specs.Laws.{IsGood, TurnsKeep}
 use Rattle.laws_dataflow.specs.Nets.{Cell, at_window, at_unary, at_join, Turn, Feeds, Planned, Laid, cell_next, cell_shown, input_of, left_of, right_of}
 use Rattle.laws_dataflow.specs.Operators.{net_of}
-use Rattle.laws_dataflow.specs.Plans.{below_root, consumer_of, least_of, value_of, world_of}
+use Rattle.laws_dataflow.specs.Plans.{consumer_of, least_of, value_of, world_of}
+use Rattle.laws_dataflow.specs.Roots.{below_root}
 use Rattle.laws_dataflow.specs.Queries.{GoodRoot}
 use Rattle.laws_dataflow.proofs.AnswerLemmas.{query_laid, query_planned, shaped, turns_keep}
 use Rattle.laws_dataflow.proofs.PlanLemmas.{Shaped}

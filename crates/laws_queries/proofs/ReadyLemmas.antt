@@ -18,7 +18,8 @@ use Rattle.plan.specs.Nodes.{Window, Select, Join, Project, Group, Distinct, ToS
 use Rattle.reference.specs.Machine.{Machine, Registered, closed_answers, until_for}
 use Rattle.laws_dataflow.specs.Nets.{World, Cell, Planned, at_window, at_unary, at_join, IdleCell, cell_next, cell_shown}
 use Rattle.laws_dataflow.specs.Operators.{net_of}
-use Rattle.laws_dataflow.specs.Plans.{below_root, least_of, value_of, world_of}
+use Rattle.laws_dataflow.specs.Plans.{least_of, value_of, world_of}
+use Rattle.laws_dataflow.specs.Roots.{below_root}
 use Rattle.laws_dataflow.specs.Queries.{Idle}
 use Rattle.laws_dataflow.proofs.AnswerLemmas.{machine_begins, machine_complete, query_least, query_planned, shaped}
 use Rattle.laws_dataflow.proofs.IdleLemmas.{all_idle}

@@ -32,14 +32,17 @@ use Rattle.plan.specs.declared.node.Node.TheVariants.{Window as Source, Select, 
 use Rattle.plan.proofs.Lists.{each-unmap}
 use Rattle.physical_plans.specs.Beginnings as made
 use Rattle.windows.specs.Windows.{IsFormed}
-use Rattle.physical_plans.specs.Beginnings.{AreMade, HaveNarrowRows, IsMade, IsMakeable, grouping, key_pair, nothing_waits, width_made, widths_from, window_at}
+use Rattle.physical_plans.specs.Beginnings.{AreMade, HaveNarrowRows, IsMade, IsMakeable, grouping}
+use Rattle.physical_plans.specs.Beginnings.{key_pair, width_made, widths_from, window_at}
+use Rattle.physical_plans.specs.Nothing.{nothing_waits}
 use Rattle.physical_plans.proofs.LawLemmas.{kinds_mean}
 use Rattle.reference.specs.Machine.{Machine, Place, Registered, opens}
 use Rattle.laws_dataflow.specs.Laws.{IsGood}
 use Rattle.laws_dataflow.specs.Laws as nets
 use Rattle.laws_dataflow.specs.Nets as net
 use Rattle.laws_dataflow.specs.Operators as net_nodes
-use Rattle.laws_dataflow.specs.Plans.{below_root, world_of}
+use Rattle.laws_dataflow.specs.Plans.{world_of}
+use Rattle.laws_dataflow.specs.Roots.{below_root}
 use Rattle.laws_dataflow.specs.Starts.{fresh_cell, fresh_root}
 use Rattle.laws_dataflow.proofs.AnswerLemmas.{shaped}
 use Rattle.laws_dataflow.proofs.PlanLemmas.{Shaped}

@@ -21,7 +21,8 @@ use Rattle.laws_dataflow.specs.Windows.{Brings}
 use Rattle.laws_dataflow.specs.Nets.{World, Node, Cell, Input, at_window, at_unary, at_join, cell_shown, cell_next, left_of, right_of, input_of, past, window, unary, join, ComesLater, Planned}
 use Rattle.laws_dataflow.specs.Operators.{net_of, node_of}
 use Rattle.laws_dataflow.specs.Passes.{Clears, reached, ended, ticked}
-use Rattle.laws_dataflow.specs.Plans.{below_root, least_of, value_of, world_of}
+use Rattle.laws_dataflow.specs.Plans.{least_of, value_of, world_of}
+use Rattle.laws_dataflow.specs.Roots.{below_root}
 use Rattle.laws_dataflow.proofs.AnswerLemmas.{query_laid, query_planned, shaped}
 use Rattle.laws_dataflow.proofs.PlanLemmas.{Shaped}
 use Rattle.laws_dataflow.proofs.WindowLemmas.{Brings_after}

@@ -12,7 +12,7 @@ use Rattle.reference.specs.Commands.{Append, Heartbeat, after, first_fault}
 use Rattle.reference.specs.Machine.{Machine, Registered, closed_answers}
 use Rattle.stream_store.specs.Gains.{QueuesGain}
 use Rattle.laws_dataflow.specs.Laws as nets
-use Rattle.laws_dataflow.specs.Plans.{below_root}
+use Rattle.laws_dataflow.specs.Roots.{below_root}
 use Rattle.laws_queries.specs.Rooms.{HasShortInputs}
 use Rattle.laws_queries.specs.Steps.{IsFirst, outs_at_first}
 use Rattle.laws_queries.specs.Queries.{IsAnswered, IsRunning, IsTurned, MayFeed, MayFinish}

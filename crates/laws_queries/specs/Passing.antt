@@ -16,7 +16,7 @@ use Rattle.operators.specs.declared.inboxes.Inbox.{Inbox}
 use Rattle.operators.specs.declared.inboxes.Inbox.TheVariants.{First, Between}
 use Rattle.operators.specs.declared.states.State.{State}
 use Rattle.operators.specs.declared.states.State.TheVariants as state
-use Rattle.laws_dataflow.specs.Plans.{below_root}
+use Rattle.laws_dataflow.specs.Roots.{below_root}
 use Rattle.laws_queries.specs.Queries.{IsRunning}
 use Rattle.laws_queries.specs.Plain.{log_at, operator_at}
 use Rattle.laws_queries.specs.Rooms.{IsBounded}

@@ -12,7 +12,8 @@ use Rattle.operators.specs.declared.states.State.{State}
 use Rattle.operators.specs.declared.states.State.TheVariants as state
 use Rattle.laws_dataflow.specs.Nets.{cell_next, past}
 use Rattle.laws_dataflow.specs.Passes.{Clears}
-use Rattle.laws_dataflow.specs.Plans.{below_root, world_of}
+use Rattle.laws_dataflow.specs.Plans.{world_of}
+use Rattle.laws_dataflow.specs.Roots.{below_root}
 use Rattle.laws_queries.specs.Passing.{IsQuiet, passed_state}
 use Rattle.laws_queries.specs.Queries.{IsRunning}
 use Rattle.laws_queries.specs.Plain.{log_at, node_at, operator_at}

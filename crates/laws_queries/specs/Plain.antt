@@ -7,7 +7,7 @@ use Rattle.op_queue.specs.Logs.{Closed}
 use Rattle.turn.specs.declared.kinds.Kind.TheVariants as kind
 use Rattle.operators.specs.Ready.{PlainOperator}
 use Rattle.operators.specs.declared.states.State.TheVariants as state
-use Rattle.physical_plans.specs.Beginnings.{nothing_waits}
+use Rattle.physical_plans.specs.Nothing.{nothing_waits}
 use Rattle.physical_plans.specs.declared.wiring.Wire.{Wire}
 use Rattle.plan.specs.Nodes as plan
 use Rattle.reference.specs.Machine.{Machine, Place, Registered, Stream}

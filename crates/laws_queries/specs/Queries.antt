@@ -31,7 +31,8 @@ use Rattle.stream_store.specs.Stored.{IsByArrival}
 use Rattle.laws_dataflow.specs.Laws.{IsGood}
 use Rattle.laws_dataflow.specs.Laws as nets
 use Rattle.laws_dataflow.specs.Nets.{Cell}
-use Rattle.laws_dataflow.specs.Plans.{below_root, world_of}
+use Rattle.laws_dataflow.specs.Plans.{world_of}
+use Rattle.laws_dataflow.specs.Roots.{below_root}
 use Rattle.laws_queries.specs.Runs.{Runs, RunsRoot}
 use Rattle.laws_queries.specs.Widths.{AreEntries, IsRow, IsWide, width_at}
 use Rattle.laws_queries.specs.Counts.{AreFew, StaysWithin, count, most_rows}

@@ -6,7 +6,7 @@ use Rattle.values.specs.Ranges.{IsAnswerValue}
 use Rattle.plan.specs.Nodes as plan
 use Rattle.reference.specs.Commands.{Command, after, first_fault}
 use Rattle.reference.specs.Machine.{Machine, Registered, Stream, empty}
-use Rattle.laws_dataflow.specs.Plans.{below_root}
+use Rattle.laws_dataflow.specs.Roots.{below_root}
 use Rattle.laws_queries.specs.Widths.{width_at}
 use Rattle.laws_queries.specs.Machines.{IsMachine, columns_of}
 use Rattle.stream_store.specs.Stored.{IsByArrival}

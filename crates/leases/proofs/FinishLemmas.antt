@@ -14,7 +14,7 @@ use Rattle.operators.specs.States.{near_of}
 use Rattle.physical_plans.specs.Wiring.{wire_from}
 use Rattle.physical_plans.specs.declared.wiring.Wire.{Wire}
 use Rattle.reference.specs.Machine.{Registered}
-use Rattle.laws_dataflow.specs.Plans.{below_root}
+use Rattle.laws_dataflow.specs.Roots.{below_root}
 use Rattle.laws_queries.specs.Laws.{RootsRun, TurnsRun}
 use Rattle.laws_queries.specs.Machines.{widths_of}
 use Rattle.laws_queries.specs.Queries.{IsTurned, change_at_first}

@@ -5,7 +5,7 @@ use Rattle.std.proofs.lemmas.List.{map-append}
 use Rattle.operators.specs.Ready.{last_in}
 use Rattle.reference.specs.Machine.{Registered}
 use Rattle.reference.specs.Opening.{all_instants}
-use Rattle.laws_dataflow.specs.Queries.{behind}
+use Rattle.laws_dataflow.specs.Roots.{behind}
 use Rattle.laws_queries.specs.Plain.{PlainQuery, operator_at}
 use Rattle.laws_engine.specs.Engines.{PlainRemains, Running}
 use Rattle.laws_engine.specs.Openings.{mark_in, marks_by}

@@ -13,7 +13,7 @@ use Rattle.operators.specs.declared.inboxes.Inbox.{Inbox}
 use Rattle.plan.specs.Nodes as plan
 use Rattle.plan.specs.Nodes.{Window, Select, Join, Project, Group, Distinct, ToStream}
 use Rattle.reference.specs.Machine.{Machine, Registered, Stream}
-use Rattle.laws_dataflow.specs.Plans.{below_root}
+use Rattle.laws_dataflow.specs.Roots.{below_root}
 use Rattle.laws_queries.specs.Machines.{widths_of}
 use Rattle.laws_queries.specs.Queries.{IsLeftInbox, IsRunning}
 use Rattle.laws_queries.specs.Plain.{PlainQuery, log_at, node_at, operator_at}

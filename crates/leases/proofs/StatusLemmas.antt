@@ -6,7 +6,7 @@ use Rattle.operators.specs.Ready.{last_in}
 use Rattle.reference.specs.Machine.{Registered}
 use Rattle.reference.specs.Opening.{all_instants}
 use Rattle.reference.specs.Status.{QueryStatus, queries_status, query_status, status_of, stream_status}
-use Rattle.laws_dataflow.specs.Queries.{behind}
+use Rattle.laws_dataflow.specs.Roots.{behind}
 use Rattle.laws_queries.specs.Plain.{PlainQuery, operator_at}
 use Rattle.laws_engine.specs.Engines.{Broken, Dropped, PlainEngine, PlainRemains, Running, answers_in, next_of, upto_by, upto_in, world_of}
 use Rattle.leases.specs.Forgets.{IsMarkable}

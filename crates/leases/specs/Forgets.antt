@@ -13,7 +13,7 @@ use Rattle.op_queue.specs.Logs.{Closed}
 use Rattle.stream_store.specs.Closing.{closed_of}
 use Rattle.stream_store.specs.declared.starts.Start.{Start}
 use Rattle.needed_rows.specs.Columns.{IsRegular}
-use Rattle.laws_dataflow.specs.Plans.{below_root}
+use Rattle.laws_dataflow.specs.Roots.{below_root}
 use Rattle.laws_engine.specs.Engines.{Broken, Dropped, PlainEngine, PlainRemains, Running}
 use Rattle.laws_engine.specs.Engines.{answers_in, next_of}
 use Rattle.laws_engine.specs.Openings.{marks_by}

@@ -12,7 +12,7 @@ use Rattle.op_queue.specs.Logs.{Closed, cursor_entries}
 use Rattle.operators.specs.declared.inboxes.Inbox.{Inbox}
 use Rattle.operators.specs.declared.inboxes.Inbox.TheVariants.{First, Between}
 use Rattle.std.specs.Option.{option_map}
-use Rattle.column.specs.Rows.{of_side}
+use Rattle.column.specs.Sides.{of_side}
 use Rattle.op_queue.specs.declared.queue.Front.{Front}
 use Rattle.op_queue.specs.declared.queue.Front.TheVariants as front
 use Rattle.turn.specs.declared.kinds.Kind.{Kind}

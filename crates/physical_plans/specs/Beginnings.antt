@@ -1,6 +1,6 @@
 -- The operators of a plan at their beginning.
-use Rattle.std.specs.Prelude.{ℕ, ◌+◌, ◌≡◌, ◌<◌, ◌≤◌, Option, Some, None, false, List, [], ◌∷◌, ◌++◌}
-use Rattle.std.specs.Prelude.{map, length, get_or}
+use Rattle.std.specs.Prelude.{ℕ, ◌+◌, ◌≡◌, ◌≤◌, None, false, List, [], ◌∷◌, ◌++◌, map, length}
+use Rattle.std.specs.Prelude.{get_or}
 use Rattle.std.specs.List.{AllByRecursion}
 use Rattle.values.specs.declared.TheConstants.{MAX_COLUMNS}
 use Rattle.values.specs.Resolved.{condition_of, window_of}
@@ -20,7 +20,6 @@ use Rattle.turn.specs.declared.kinds.Kind.TheVariants as kind
 use Rattle.operators.specs.Inboxes.{IsInboxWithin, is_fed}
 use Rattle.operators.specs.Ready.{PlainOperator, entries_in}
 use Rattle.operators.specs.declared.inboxes.Inbox.{Inbox}
-use Rattle.operators.specs.declared.inboxes.Inbox.TheVariants.{Between}
 use Rattle.operators.specs.declared.states.State.{State}
 use Rattle.operators.specs.declared.states.State.TheVariants as state
 use Rattle.plan.specs.declared.node.Key.{Key}
@@ -28,6 +27,7 @@ use Rattle.plan.specs.declared.node.Node.{Node}
 use Rattle.plan.specs.declared.node.Node.TheVariants.{Window as Source, Select, Join, Project}
 use Rattle.plan.specs.declared.node.Node.TheVariants.{Group, Distinct, ToStream}
 use Rattle.physical_plans.specs.Conjuncts.{all_steps}
+use Rattle.physical_plans.specs.Nothing.{nothing_waits}
 
 -- HOW MANY COLUMNS the rows of an operator have, from
 -- those of the sources and of the operators before it
@@ -89,10 +89,6 @@ StateStarts ws vs widths (ToStream i op) s =
       whole = [];
       last = None;
     })
-
--- WHAT WAITS FOR IT: at a window what its source's log has of the query's input, else nothing
-abbrev pub nothing_waits : Inbox
-nothing_waits = Between (record { entries = []; begins = []; pieces = 0 })
 
 pub record ReadsSource (place start : ℕ) (i : Inbox) : Type 0 where
   pub entries : (log : Closed) → entries_in i log ≡ log_entries place start log

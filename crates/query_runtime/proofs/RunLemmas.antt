@@ -19,7 +19,7 @@ use Rattle.physical_plans.specs.Wiring.{wire_from}
 use Rattle.physical_plans.specs.declared.wiring.Wire.{Wire}
 use Rattle.plan.specs.Nodes as plan
 use Rattle.reference.specs.Machine.{Machine, Registered}
-use Rattle.laws_dataflow.specs.Plans.{below_root}
+use Rattle.laws_dataflow.specs.Roots.{below_root}
 use Rattle.laws_queries.specs.Laws.{RootsRun, TurnsRun}
 use Rattle.laws_queries.specs.Queries.{HasInboxes, IsAnswered, IsPlainQuery, IsRunning, IsTurned}
 use Rattle.laws_queries.specs.Queries.{MayFeed, MayFinish, change_at_first}

@@ -6,7 +6,7 @@ ghost use Rattle.values.specs.Plain.{plain};
 ghost use Rattle.reference.specs.Commands.{append_tests, heartbeat_tests, appended, closed_to};
 ghost use Rattle.reference.specs.Commands.{catalog_of};
 ghost use Rattle.names.specs.Faults.{first_of};
-ghost use Rattle.names.specs.Views.{names_of};
+ghost use Rattle.names.specs.Names.{names_of};
 ghost use Rattle.cql_reader.specs.Names.{name_of};
 ghost use Rattle.reference.specs.Inputs.{ShowsSame};
 ghost use Rattle.reference.specs.Kept.{kept_in};
@@ -48,7 +48,7 @@ impl Model for Stream {
     ghost use Rattle.std.specs.Prelude.{◌≡◌, ◌≤◌, ◌*◌, length};
     ghost use Rattle.cql_reader.specs.Names.{name_of};
     ghost use Rattle.names.specs.Faults.{first_of};
-    ghost use Rattle.names.specs.Views.{names_of};
+    ghost use Rattle.names.specs.Names.{names_of};
     ghost use Rattle.reference.specs.Machine as machine;
     ghost use Rattle.reference.specs.Kept.{kept_in};
     ghost use Rattle.values.specs.Window.{numbered};

@@ -15,15 +15,15 @@ use Rattle.reference.specs.declared.fault.Fault.{Fault}
 use Rattle.reference.specs.declared.fault.Fault.TheVariants.{BadLimit, OutOfMemory, TooManyLeases}
 use Rattle.reference.specs.World.{IsTurnSize}
 use Rattle.wire.specs.Calls.{Call, declare, register, append, heartbeat, drain, take_rows, drop_query, forget, look, call_of}
-use Rattle.wire.specs.Exchanges.{Leads}
+use Rattle.wire.specs.Answering.{Leads}
 use Rattle.wire.specs.Printed.{Answer, done, refused, unread}
-use Rattle.wire.specs.Requests.{Reads}
+use Rattle.wire.specs.Reading.{Reads}
 use Rattle.wire.specs.Script.{done_of}
 use Rattle.wire.specs.declared.request.Request.{Request}
 use Rattle.wire.specs.declared.request.WireFault.{WireFault}
 use Rattle.wire.specs.declared.request.WireFault.TheVariants.{NotJson, BadRequest, LineTooLong}
 use Rattle.wire.specs.declared.request.WireFault.TheVariants as in_line
-use Rattle.workers.specs.Lacks.{WasFull}
+use Rattle.workers.specs.Full.{WasFull}
 use Rattle.workers.specs.declared.pool.TheConstants.{MAX_WORKERS}
 use Rattle.served.specs.Serving.{Carries, CarriesNamed, DropsNamed, Forgets, IsPool, Keeps, MaySettle, PoolDrains, Replies, Runs, RunsSettling, Serves, SettlesAround, WasAtRest, WasIdle, asks_forget, forgets, is_done, shown}
 

@@ -1,11 +1,12 @@
+-- TO BELIEVE: the theorem rests on these definitions, and no proof can check them.
 -- What a seat of a hub answers the requests of a script, while other seats call as well.
-use Rattle.std.specs.Prelude.{◌≡◌, ◌≢◌, ◌≤◌, ℕ, ℤ, pos, Bool, true, false, ◌&&◌, List, ◌++◌}
-use Rattle.std.specs.Prelude.{Option, Some, None, Result, Ok, Err, ◌⊎◌, ⊤}
+use Rattle.std.specs.Prelude.{◌≡◌, ◌≢◌, ◌≤◌, ℕ, Bool, true, false, ◌&&◌, List, ◌++◌, Option, Some}
+use Rattle.std.specs.Prelude.{None, Result, Ok, Err, ◌⊎◌, ⊤}
 use Rattle.histories.specs.Histories.{Told}
 use Rattle.hub.specs.Seats.{PlainSeat}
 use Rattle.hub.specs.Steps as hub
-use Rattle.hub.specs.Steps.{PlainLocked, FindsQuery, Hands, Rests, SeesLook}
-use Rattle.hub.specs.Steps.{Spurned, SpurnedNamed, Took, TookNamed}
+use Rattle.hub.specs.Steps.{PlainLocked, FindsQuery, Hands, Rests, SeesLook, Spurned, SpurnedNamed}
+use Rattle.hub.specs.Steps.{Took, TookNamed}
 use Rattle.leases.specs.declared.leased.Leased.TheVariants.{Idle}
 use Rattle.reference.specs.Commands.{Command, Declare, Register, Append, Heartbeat, Take, Drop}
 use Rattle.reference.specs.Looks.{Look, Seen}
@@ -20,21 +21,13 @@ use Rattle.wire.specs.Calls.{drop_query, forget, look}
 use Rattle.wire.specs.Exchanges as exchanges
 use Rattle.wire.specs.Printed.{Answer, done, rows, refused, unread}
 use Rattle.wire.specs.Script.{seen_or}
-use Rattle.wire.specs.declared.request.Request.{Request}
 use Rattle.wire.specs.declared.request.Request.TheVariants as request
 use Rattle.wire.specs.declared.request.WireFault.{WireFault}
 use Rattle.wire.specs.declared.request.WireFault.TheVariants as in_line
-use Rattle.workers.specs.Lacks.{WasFull}
+use Rattle.workers.specs.Full.{WasFull}
 use Rattle.workers.specs.declared.pool.TheConstants.{MAX_WORKERS}
 
 -- ---- one request
-
--- the first instant of a stream, the instant of a heartbeat, or the limit of a take
-abbrev pub number_in : Request → ℤ
-number_in (request.Stream name columns start) = start
-number_in (request.Heartbeat stream at) = at
-number_in (request.Take query limit) = limit
-number_in r = pos 0
 
 -- what a request is answered whose command has this reply in the history
 abbrev pub shown : Reply → Answer

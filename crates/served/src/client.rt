@@ -3,7 +3,7 @@ ghost use Rattle.std.specs.Prelude.{◌≡◌, ◌&&◌, Ok};
 ghost use Rattle.wire.specs.Calls.{call_of};
 ghost use Rattle.wire.specs.Printed.{answer_of};
 ghost use Rattle.served.specs.Serving.{Replies, Serves, asks_forget, forgets, is_done};
-ghost use Rattle.served.specs.Serving.{number_in};
+ghost use Rattle.served.specs.Numbers.{number_in};
 
 use crate::answer::{append, close_instants, drop_query, show, take};
 use crate::drains::Drainer;

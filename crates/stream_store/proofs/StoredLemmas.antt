@@ -10,7 +10,7 @@ use Rattle.op_queue.specs.Logs.{Closed}
 use Rattle.op_queue.specs.Closings.{IsInOrder, IsClosing}
 use Rattle.cql_reader.specs.declared.name.Name.{Name}
 use Rattle.cql_reader.specs.Names.{name_of}
-use Rattle.names.specs.Views.{names_of}
+use Rattle.names.specs.Names.{names_of}
 use Rattle.reference.specs.Machine.{Stream}
 use Rattle.names.specs.Faults.{first_of}
 use Rattle.reference.specs.Commands.{appended, closed_to, append_tests, is_instant, is_stream_value}

@@ -3,7 +3,7 @@ ghost use Rattle.std.specs.Prelude.{◌≡◌, ◌≤◌, ◌++◌, ◌∷◌, [
 ghost use Rattle.std.specs.Prelude.{◌+◌, Bool, IfSome, length, nat_lt};
 ghost use Rattle.values.specs.Window.{Element};
 ghost use Rattle.cql_reader.specs.Names.{name_of};
-ghost use Rattle.names.specs.Views.{names_of};
+ghost use Rattle.names.specs.Names.{names_of};
 ghost use Rattle.op_queue.specs.Cursors.{GainsClosed};
 ghost use Rattle.names.specs.Faults.{first_of};
 ghost use Rattle.reference.specs.Commands.{append_tests, heartbeat_tests, appended, closed_to};
@@ -49,7 +49,7 @@ pub struct Stored {
 impl Model for Stored {
     ghost use Rattle.std.specs.Prelude.{◌≡◌, length};
     ghost use Rattle.cql_reader.specs.Names.{name_of};
-    ghost use Rattle.names.specs.Views.{names_of};
+    ghost use Rattle.names.specs.Names.{names_of};
     ghost use Rattle.reference.specs.Machine as machine;
 
     ghost Value = { machine.Stream };

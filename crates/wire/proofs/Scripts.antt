@@ -4,12 +4,16 @@ use Rattle.std.specs.Io.KnownBytes.{Appends, prepend_known}
 use Rattle.wire.specs.Devices.{AppendsFront}
 use Rattle.wire.specs.Calls.{Call, call_of}
 use Rattle.wire.specs.Printed.{Answer, done, rows, seen, refused, unread, line_of}
-use Rattle.wire.specs.Requests.{requests_of, Reads, BeginsWithRequest, HasNoRequest}
+use Rattle.wire.specs.Requests.{requests_of}
+use Rattle.wire.specs.Reading.{Reads, BeginsWithRequest, HasNoRequest}
 use Rattle.reference.specs.Alike.{Alike}
 use Rattle.reference.specs.World.{World}
 use Rattle.reference.proofs.AlikeLemmas.{world_itself}
 use Rattle.laws_forgetting.proofs.EquivalenceLemmas.{worlds_joined}
-use Rattle.wire.specs.Script.{replies, script, Says, Begins, BeginsScarce, Scripts, AnswersCall, LeadsAlike, Replies, Runs, Stands, TellsScarcity, RestsOn, answered, served, is_scarce_answer, is_scarce_reply}
+use Rattle.wire.specs.Script.{replies, script, Says, Begins, BeginsScarce, Scripts, AnswersCall}
+use Rattle.wire.specs.Script.{LeadsAlike, Runs, Stands, TellsScarcity, RestsOn, answered, served}
+use Rattle.wire.specs.Script.{is_scarce_answer, is_scarce_reply}
+use Rattle.wire.specs.Answering.{Replies}
 use Rattle.wire.specs.declared.request.Request.{Request}
 use Rattle.wire.specs.declared.request.WireFault.{WireFault}
 use Rattle.wire.specs.declared.request.WireFault.TheVariants.{NotJson, BadRequest, LineTooLong, OutOfMemory}

@@ -1,3 +1,4 @@
+-- TO BELIEVE: the theorem rests on these definitions, and no proof can check them.
 -- The call of an engine that a request asks for, with streams and queries by name.
 use Rattle.std.specs.Prelude.{ℕ, ℤ, List, Option, string_bytes}
 use Rattle.plan.specs.Chart.{given_by}

@@ -1,6 +1,7 @@
+-- TO BELIEVE: the theorem rests on these definitions, and no proof can check them.
 -- The lines of replies.
-use Rattle.std.specs.Prelude.{ℕ, zero, suc, ℤ, Bool, true, false, List, [], ◌∷◌, ◌++◌}
-use Rattle.std.specs.Prelude.{Option, Some, None, codes, decimal, flat_map}
+use Rattle.std.specs.Prelude.{ℕ, ℤ, Bool, true, false, List, [], ◌∷◌, ◌++◌, Option, Some, None}
+use Rattle.std.specs.Prelude.{codes, decimal, flat_map}
 use Rattle.std.specs.Arc.{arc_value}
 use Rattle.std.specs.Fmt.{signed_decimal}
 use Rattle.values.specs.Row.{Row}
@@ -46,11 +47,6 @@ value_text (Some z) = signed_decimal z
 -- each text after a comma
 abbrev pub after_commas : {A : Type 0} → (A → List ℕ) → List A → List ℕ
 after_commas f xs = flat_map (λ x. codes "," ++ f x) xs
-
--- a comma, before all but the first
-abbrev pub comma_before : ℕ → List ℕ
-comma_before zero = []
-comma_before (suc number) = codes ","
 
 -- the instant, then the values
 unfoldable pub row_text : ℤ × Row → List ℕ

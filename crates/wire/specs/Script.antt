@@ -1,3 +1,4 @@
+-- TO BELIEVE: the theorem rests on these definitions, and no proof can check them.
 -- The text that a script of requests is answered.
 use Rattle.std.specs.Prelude.{◌≡◌, ℕ, ℤ, Bool, true, false, List, [], ◌∷◌, ◌++◌, Option, Some, None}
 use Rattle.std.specs.Prelude.{Result, Ok, Err, ◌⊎◌, ⊤}
@@ -132,12 +133,6 @@ NeedsWhole (take_rows query limit) = ⊤
 NeedsWhole (look asked) = looks.NeedsWhole asked
 NeedsWhole forget = ⊤
 NeedsWhole call = ⊥
-
--- The reply is the defined one, and no later request tells the world after
--- it from the defined one, unless the reply says that something was scarce.
-abbrev pub Replies : World → Result Call WireFault → Answer → World → Type 0
-Replies old request answer new =
-    is_scarce_reply request answer ≡ false → LeadsAlike (served old request) answer new
 
 -- The text begins with a reply to this request that says that memory, or
 -- numbers for a drain's turns, were scarce; numbers only where there are none.

@@ -5,7 +5,8 @@ ghost use Rattle.std.specs.Prelude.{length, take, slice_index, vec_len};
 ghost use Rattle.std.specs.Prelude.{vec_capacity, Option};
 ghost use Rattle.std.specs.Io.KnownBytes.{IsAtEnd, Consumes, Keeps as Same};
 ghost use Rattle.wire.specs.Devices.{Rises};
-ghost use Rattle.wire.specs.Lines.{EachOther, NoFeed, Keeps, longest_line, BeginsWithLine};
+ghost use Rattle.wire.specs.Lines.{longest_line};
+ghost use Rattle.wire.specs.Reading.{EachOther, NoFeed, Keeps, BeginsWithLine};
 
 use crate::device::{DeviceFailed, Source};
 use crate::read::is_blank;

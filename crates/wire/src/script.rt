@@ -9,10 +9,12 @@ ghost use Rattle.wire.specs.Paged.{Writes};
 ghost use Rattle.wire.specs.Calls.{Call, append, heartbeat, drain, take_rows, drop_query, forget};
 ghost use Rattle.wire.specs.Calls.{call_of, look};
 ghost use Rattle.wire.specs.Printed.{Answer, answer_of, line_of};
-ghost use Rattle.wire.specs.Requests.{BeginsWithRequest, HasNoRequest, Reads, requests_of};
+ghost use Rattle.wire.specs.Requests.{requests_of};
+ghost use Rattle.wire.specs.Reading.{BeginsWithRequest, HasNoRequest, Reads};
 ghost use Rattle.wire.specs.Script.{answered, is_scarce_answer, is_scarce_reply, script};
 ghost use Rattle.wire.specs.Script.{Says, Begins, Runs, Scripts, Stands, TellsScarcity};
-ghost use Rattle.wire.specs.Script.{AnswersCall, NeedsWhole, RestsOn, Replies};
+ghost use Rattle.wire.specs.Script.{AnswersCall, NeedsWhole, RestsOn};
+ghost use Rattle.wire.specs.Answering.{Replies};
 ghost use Rattle.wire.specs.declared.request.WireFault.{WireFault};
 
 use crate::device::{Sink, Source};

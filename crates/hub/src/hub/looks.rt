@@ -1,7 +1,8 @@
 //! Shows what anyone may look at. No seat is needed, and nothing changes.
 ghost use Rattle.reference.specs.Looks.{look_of, seen_in};
-ghost use Rattle.hub.specs.Steps.{PlainLocked, FindsQuery, FindsStream, SeesLook, SeesPeek};
-ghost use Rattle.hub.specs.Steps.{SeesPending, SeesReady, SeesSlopes, SeesStatus, SeesWaiting};
+ghost use Rattle.hub.specs.Steps.{PlainLocked, FindsQuery, SeesLook};
+ghost use Rattle.hub.specs.Workers.{FindsStream, SeesPeek, SeesPending, SeesReady, SeesSlopes};
+ghost use Rattle.hub.specs.Workers.{SeesStatus, SeesWaiting};
 
 use crate::hub::Hub;
 use answer_rows::AnswerRows;

@@ -8,7 +8,8 @@ ghost use Rattle.reference.specs.Commands.{Declare, Register, Append, Heartbeat,
 ghost use Rattle.reference.specs.Replies as replies;
 ghost use Rattle.reference.specs.Replies.{Number, Rows};
 ghost use Rattle.hub.specs.Seats.{reach};
-ghost use Rattle.hub.specs.Steps.{Accepted, Barred, Declined, HasRoom, next_number};
+ghost use Rattle.hub.specs.Steps.{Accepted, Declined, HasRoom, next_number};
+ghost use Rattle.hub.specs.Workers.{Barred};
 
 use crate::carry::carry_out;
 use crate::locked::{Locked, MAX_ENTRIES};

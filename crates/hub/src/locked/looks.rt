@@ -1,8 +1,10 @@
 //! Shows what anyone may look at. None of it changes anything.
 ghost use Rattle.std.specs.Prelude.{◌≡◌, length};
 ghost use Rattle.reference.specs.Looks.{look_of, seen_in};
-ghost use Rattle.hub.specs.Steps.{FindsQuery, FindsStream, SeesLook, SeesPeek, SeesPending};
-ghost use Rattle.hub.specs.Steps.{SeesSlopes, SeesStatus, SeesWaiting, engine_at};
+ghost use Rattle.hub.specs.Steps.{FindsQuery, SeesLook};
+ghost use Rattle.hub.specs.Workers.{FindsStream, SeesPeek, SeesPending};
+ghost use Rattle.hub.specs.Steps.{engine_at};
+ghost use Rattle.hub.specs.Workers.{SeesSlopes, SeesStatus, SeesWaiting};
 
 use crate::locked::Locked;
 use answer_rows::AnswerRows;

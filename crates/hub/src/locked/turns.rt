@@ -1,8 +1,11 @@
 //! Answers what workers call. None of it changes the history.
 ghost use Rattle.std.specs.Prelude.{◌≡◌, ◌<◌, IfOk, IfErr, IsTrue, length, false};
-ghost use Rattle.hub.specs.Steps.{Drains, DrainsSome, DrainsSomeByQuery, Ends, GivesUp, Hands};
-ghost use Rattle.hub.specs.Steps.{HasEnded, IsIdle, Lends, Rests, SeesReady, Withholds};
-ghost use Rattle.hub.specs.Steps.{ended, engine_at, with_engine};
+ghost use Rattle.hub.specs.Steps.{Hands};
+ghost use Rattle.hub.specs.Workers.{Drains, DrainsSome, DrainsSomeByQuery, Ends, GivesUp};
+ghost use Rattle.hub.specs.Steps.{IsIdle, Rests, Withholds};
+ghost use Rattle.hub.specs.Workers.{HasEnded, Lends, SeesReady};
+ghost use Rattle.hub.specs.Steps.{engine_at, with_engine};
+ghost use Rattle.hub.specs.Workers.{ended};
 ghost use Rattle.hub.specs.Tries.{MatchRested, MatchWaited};
 
 use crate::locked::{Locked, Rested, Waited};

@@ -11,7 +11,7 @@ ghost use Rattle.reference.specs.Opening.{all_instants, restart, with_kept};
 ghost use Rattle.stream_store.specs.Closing.{closed_of};
 ghost use Rattle.needed_rows.specs.Needed.{is_needed_by_some, lists, readers_in};
 ghost use Rattle.needed_rows.specs.Queries.{readers_of};
-ghost use Rattle.laws_dataflow.specs.Queries.{behind};
+ghost use Rattle.laws_dataflow.specs.Roots.{behind};
 ghost use Rattle.laws_engine.specs.Engines.{answers_in};
 ghost use Rattle.laws_engine.specs.Openings.{forgotten, mark_in};
 ghost use Rattle.leases.specs.Forgets.{AreMarkable, AreReadIn, IsMarkable, IsReadLog, IsSaid};

@@ -12,7 +12,7 @@ ghost use Rattle.reference.specs.Machine.{ends_at};
 ghost use Rattle.reference.specs.Places.{machine_of};
 ghost use Rattle.names.specs.Sound.{has_narrow_rows};
 ghost use Rattle.names.specs.Faults.{first_of};
-ghost use Rattle.names.specs.Views.{names_of};
+ghost use Rattle.names.specs.Names.{names_of};
 ghost use Rattle.cql_reader.specs.Lexis.{is_name};
 
 use crate::new_rows::NewRows;

@@ -9,7 +9,8 @@ use Rattle.reference.specs.CallViews.{texts_of}
 use Rattle.reference.specs.Commands.{Declare, Heartbeat, Register, Take}
 use Rattle.reference.specs.Replies as replies
 use Rattle.wire.specs.Printed.{answer_of}
-use Rattle.served.specs.Serving.{Carries, CarriesNamed, number_in}
+use Rattle.served.specs.Serving.{Carries, CarriesNamed}
+use Rattle.served.specs.Numbers.{number_in}
 use Rattle.served.proofs.Requests.{carried, forgot, serves_as}
 use Rattle.served.proofs.client.Client.answer.Goals as goal
 

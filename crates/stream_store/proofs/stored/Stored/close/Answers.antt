@@ -1,7 +1,7 @@
 use Rattle.std.proofs.Common.{◌≡◌, ◌≤◌, ◌∙◌, ◌+◌, ◌++◌, suc, sym, ap, subst, ℕ, List, arith, nat_abs, length, w64}
 use Rattle.std.proofs.lemmas.Int.{to_z-of_z}
 use Rattle.cql_reader.specs.Names.{name_of}
-use Rattle.names.specs.Views.{names_of}
+use Rattle.names.specs.Names.{names_of}
 use Rattle.values.specs.Window.{Element}
 use Rattle.op_queue.specs.Cursors.{GainsClosed}
 use Rattle.op_queue.specs.Logs.{Closed}

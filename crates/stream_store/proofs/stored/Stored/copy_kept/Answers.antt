@@ -2,7 +2,7 @@ use Rattle.std.proofs.Common.{◌≡◌, ◌≤◌, ◌∙◌, ◌++◌, ap, len
 use Rattle.std.specs.List.{filter}
 use Rattle.cql_reader.specs.declared.name.Name.{Name}
 use Rattle.cql_reader.specs.Names.{name_of}
-use Rattle.names.specs.Views.{names_of}
+use Rattle.names.specs.Names.{names_of}
 use Rattle.values.specs.Window.{Element}
 use Rattle.op_queue.specs.Logs.{Closed}
 use Rattle.reference.specs.Machine.{Stream}

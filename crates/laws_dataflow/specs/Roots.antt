@@ -2,7 +2,6 @@
 -- The operator below a plan's root, and the instant after its last tick.
 use Rattle.std.specs.Prelude.{ℕ, ◌-◌, List, length, ◌+◌, Option, Some, None}
 use Rattle.plan.specs.Nodes as plan
-use Rattle.laws_dataflow.specs.Nets.{Node}
 
 -- how many operators stand below the root
 abbrev pub below_root : List plan.Node → ℕ

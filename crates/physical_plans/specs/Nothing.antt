@@ -4,6 +4,6 @@ use Rattle.std.specs.Prelude.{[]}
 use Rattle.operators.specs.declared.inboxes.Inbox.{Inbox}
 use Rattle.operators.specs.declared.inboxes.Inbox.TheVariants.{Between}
 
--- WHAT WAITS FOR IT: at a window what its source's log has of the query's input, else nothing
+-- no row and no tick
 abbrev pub nothing_waits : Inbox
 nothing_waits = Between (record { entries = []; begins = []; pieces = 0 })

@@ -39,6 +39,7 @@ pub mod PendingLemmas
 pub mod LengthLemmas
 pub mod QueryLemmas
 mod ForgetLemmas
+mod WalkedLemmas
 mod KeepingLemmas
 mod KeptQueueLemmas
 mod CountedLemmas

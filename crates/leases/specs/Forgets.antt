@@ -40,7 +40,7 @@ walked_in e =
 
 -- the most that may be stored before it pays to forget, after a forgetting that left so much
 abbrev pub most_after : ℕ → ℕ
-most_after left = counted (left * 2 + 1024)
+most_after left = left * 2 + 1024
 
 -- which elements of the stream of a number some running query needs
 abbrev pub needs_in : PlainEngine → ℕ → Element → Bool

@@ -57,7 +57,7 @@ fn have_numbers(receipts: &[Receipt], numbers: &[u64]) -> bool
 
 /// Returns whether the seat agrees with the hub. The first entry has the number `first`. Takes no
 /// memory, and looks only at the seat's own entries.
-#[tactic(auto, unfolding(crate::specs::Ledgers::ledger_in))]
+#[tactic(auto, unfolding(crate::specs::LedgerViews::ledger_in))]
 pub(crate) fn agrees(ledger: &Ledger, history: &[Entry], first: u64, seat: &Seat) -> bool
     requires { IsLedger (ledger_in ledger.now) first history.now }
     ensures { IsTrue result ↔ Agrees (ledger_in ledger.now) first history.now seat.now }

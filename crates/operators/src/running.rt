@@ -47,6 +47,7 @@ pub struct Operator {
 
 impl Model for Operator {
     ghost use Rattle.std.specs.Arc.{arc_value};
+    ghost use Rattle.operators.specs.Ready.{PlainOperator};
 
     ghost Value = { PlainOperator };
 

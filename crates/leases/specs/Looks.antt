@@ -50,7 +50,7 @@ noughts_of (node ∷ nodes) = queues_of node 0 0 ++ noughts_of nodes
 
 abbrev pub lengths_in : Machine → Registered → PlainRemains → List ℕ
 lengths_in m q (Running p) = lengths_from (log_at m q) p 0 q.nodes
-lengths_in m q (Broken answers upto) = noughts_of q.nodes
+lengths_in m q (Broken rows upto) = noughts_of q.nodes
 lengths_in m q Dropped = []
 
 -- what a look at them answers
@@ -66,7 +66,7 @@ IsPending view e n (Err f) = first_fault e.machine (Drop n) ≡ Some f
 -- running out of memory broke it
 abbrev pub is_broken : PlainRemains → Bool
 is_broken (Running p) = false
-is_broken (Broken answers upto) = true
+is_broken (Broken rows upto) = true
 is_broken Dropped = false
 
 -- one that was not dropped, with what is left of it

@@ -46,7 +46,7 @@ pub record StaysBut (old new : PlainEngine) : Type 0 where
   pub few : length new.leases ≤ length old.leases
   pub gone : map is_gone new.queries ≡ map is_gone old.queries
 
-pub sound_from : (old new : EngineState) → IsSound old → new.undropped ≡ old.undropped → new.readers.items ≡ readers_of (engine_in new) → ((g : Turn) → IsIn new.leases.items g → IsIn old.leases.items g) → GoodEngine (engine_in new) → StaysBut (engine_in old) (engine_in new)
+pub sound_from : (old new : EngineState) → IsSound old → new.undropped ≡ old.undropped → new.readers ≡ readers_of (engine_in new) → ((g : Turn) → IsIn new.leases.items g → IsIn old.leases.items g) → GoodEngine (engine_in new) → StaysBut (engine_in old) (engine_in new)
     → ((g : Turn) → IsIn old.leases.items g → HasKind (engine_in new) g) → IsSound new
 sound_from old new s undropped readers leases good st kinds = record {
   good = good;
@@ -137,7 +137,7 @@ module _ (old new : EngineState) (ls : List Lease) (slots : List Slot) (d : Leas
         few = few;
         gone = map-set_same is_gone e.queries d.query (Broken p.answers (upto_at e d.query)) Dropped (sym running_gone);
       } in
-      let readers : new.readers.items ≡ readers_of (engine_in new) =
+      let readers : new.readers ≡ readers_of (engine_in new) =
       f.readers ∙ ap (λ rs. filter (λ (r : WindowReader). not (r.query == d.query)) rs) s.readers
       ∙ readers_left d.query 0 d.query e.machine.queries (map runs e.queries) (omega arith)
       ∙ ap (readers_from 0 e.machine.queries) (sym (map-set runs e.queries d.query (Broken p.answers (upto_at e d.query)))) ∙ ap readers_of (sym is) in

@@ -74,7 +74,7 @@ columns_left keep n (s ∷ ss) h = (record { some = h.0.some; few = h.0.few }, c
 
 -- IT IS SOUND, where few rows were answered before its queries' starts
 pub forgotten_sound : (s t : EngineState) → IsSound s → HaveFewClosed (forgotten (engine_in s)).machine → engine_in t ≡ forgotten (engine_in s) → t.leases.items ≡ s.leases.items → t.next ≡ s.next → t.undropped ≡ s.undropped
-    → t.readers.items ≡ s.readers.items → IsSound t
+    → t.readers ≡ s.readers → IsSound t
 forgotten_sound s t h closed is leases next undropped readers =
     let e = engine_in s in
     let ms = marks_by e.machine.queries e.queries in

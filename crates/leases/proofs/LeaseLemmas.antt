@@ -179,7 +179,7 @@ pub record HasGone (old new : EngineState) (s : Slot) (g : Turn) : Type 0 where
   pub slots : new.slots ≡ changed s None old.slots
   pub next : new.next ≡ old.next + 1
   pub undropped : new.undropped ≡ old.undropped
-  pub readers : new.readers.items ≡ old.readers.items
+  pub readers : new.readers ≡ old.readers
 
 gone_engine : (old new : EngineState) (s : Slot) (g : Turn) → HasGone old new s g → engine_in new ≡ out_of (engine_in old) s g
 gone_engine old new s g h =

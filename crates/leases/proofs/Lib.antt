@@ -14,6 +14,7 @@ mod StreamLemmas
 mod QueueLemmas
 mod ReaderLemmas
 mod ListedLemmas
+mod ByStreamLemmas
 mod StandLemmas
 mod BeatLemmas
 mod EachLemmas

@@ -232,7 +232,7 @@ module _ (s : EngineState) (x : Slot) (sound : IsSound s) (first : first_of s.sl
         pub sound_new : s.next < LEASE_NUMBERS → IsSound new
         sound_new lt = sound_from (counted s) new (counted_sound s sound lt)
             (ap (λ (z : EngineState). z.undropped) tells ∙ rest.undropped)
-            (ap (λ (z : EngineState). z.readers.items) tells ∙ rest.readers ∙ sound.readers
+            (ap (λ (z : EngineState). z.readers) tells ∙ rest.readers ∙ sound.readers
             ∙ ap (readers_from 0 e.machine.queries) (sym (map-set_same runs e.queries n (Running p2) Dropped (sym (ap runs top.running)))) ∙ ap readers_of (sym engine_is))
             (λ g i. rest.leases g (subst (λ (z : EngineState). IsIn z.leases.items g) tells i))
             (subst GoodEngine (sym engine_is) told_good)

@@ -146,7 +146,7 @@ is_taken s e2 n limit x y r r2 count here there is_remains is_registered keeps t
     ∙ ap (with_both (engine_in s) (change n (took count) (map query_of s.registered.items))) (set-change remains_of (remains_after count) s.remains.items n y x here (keeps ∙ ap (λ z. remains_after count (remains_of z)) is_remains))
 
 -- WHAT IT KNOWS OF ITSELF after a take
-pub sound_again : (s s2 : EngineState) → IsSound s → engine_in s2 ≡ engine_in s → s2.leases.items ≡ s.leases.items → s2.next ≡ s.next → s2.undropped ≡ s.undropped → s2.readers.items ≡ s.readers.items → IsSound s2
+pub sound_again : (s s2 : EngineState) → IsSound s → engine_in s2 ≡ engine_in s → s2.leases.items ≡ s.leases.items → s2.next ≡ s.next → s2.undropped ≡ s.undropped → s2.readers ≡ s.readers → IsSound s2
 sound_again s s2 h same leases next undropped readers = record {
   good = subst GoodEngine (sym same) h.good;
   kinds = λ g i. subst (λ e. HasKind e g) (sym same) (h.kinds g (subst (λ ls. IsIn ls g) leases i));
@@ -215,7 +215,7 @@ kind_taken e n limit count g h p running =
     get_operator os k = operator_at os k
 
 pub sound_taken : (s s2 : EngineState) (n : ℕ) (limit : ℤ) (count : ℕ) → IsSound s → IsTake (engine_in s) n limit count → engine_in s2 ≡ taken (engine_in s) n limit count → s2.leases.items ≡ s.leases.items → s2.next ≡ s.next → s2.undropped ≡ s.undropped
-    → s2.readers.items ≡ s.readers.items → IsSound s2
+    → s2.readers ≡ s.readers → IsSound s2
 sound_taken s s2 n limit count h t is leases next undropped readers = record {
   good = subst GoodEngine (sym is) (take_good (engine_in s) n limit count h.good t);
   kinds = λ g i. subst (λ e. HasKind e g) (sym is) (kind_taken (engine_in s) n limit count g (h.kinds g (subst (λ ls. IsIn ls g) leases i)));

@@ -98,7 +98,7 @@ without_turn e n = record e { leases = others n e.leases }
 -- A QUERY RUNS NO MORE: its turns end, its windows and slots leave, and nothing else is changed
 pub record Stops (n : ℕ) (old new : EngineState) : Type 0 where
   pub leases : new.leases.items ≡ filter (λ t. not (t.node.query == n)) old.leases.items
-  pub readers : new.readers.items ≡ filter (λ r. not (r.query == n)) old.readers.items
+  pub readers : new.readers ≡ filter (λ r. not (r.query == n)) old.readers
   pub slots : new.slots ≡ without_query n old.slots
   pub rest : new ≡ record old { leases = new.leases; readers = new.readers; slots = new.slots }
 
@@ -106,13 +106,13 @@ pub record Stops (n : ℕ) (old new : EngineState) : Type 0 where
 -- as it was, its windows are listed no more, and no turn goes out
 pub record Forgets (n : ℕ) (old new : EngineState) : Type 0 where
   pub undropped : new.undropped ≡ old.undropped
-  pub readers : new.readers.items ≡ filter (λ r. not (r.query == n)) old.readers.items
+  pub readers : new.readers ≡ filter (λ r. not (r.query == n)) old.readers
   pub leases : (t : Turn) → IsIn new.leases.items t → IsIn old.leases.items t
 
 -- what is kept of undropped queries and the readers are as they were, and no turn goes out
 pub record GivesNothing (old new : EngineState) : Type 0 where
   pub undropped : new.undropped ≡ old.undropped
-  pub readers : new.readers.items ≡ old.readers.items
+  pub readers : new.readers ≡ old.readers
   pub leases : (t : Turn) → IsIn new.leases.items t → IsIn old.leases.items t
 
 -- SLOTS THAT ARE TOLD ANEW

@@ -119,7 +119,7 @@ out_of j = (j.query, remains_of j.remains)
 pub record IsBare (e : PlainEngine) (old new : EngineState) : Type 0 where
   pub is : engine_in new ≡ record e { queries = (engine_in new).queries }
   pub undropped : new.undropped ≡ old.undropped
-  pub readers : new.readers.items ≡ old.readers.items
+  pub readers : new.readers ≡ old.readers
   pub leases : new.leases.items ≡ old.leases.items
 
 -- LENT: the jobs have the queries of the state as it was
@@ -153,7 +153,7 @@ pub record AreOut (e : PlainEngine) (rows : ℕ) (js : List Job) (s : EngineStat
   pub gone : map (λ q. q.is_dropped) e.machine.queries ≡ map is_gone e.queries
   pub columns : HaveColumnNames e.machine
   pub closed : HaveFewClosed e.machine
-  pub readers : s.readers.items ≡ readers_of e
+  pub readers : s.readers ≡ readers_of e
   pub outs : List (ℕ × PlainRemains)
   pub placed : placed outs (engine_in s).queries ≡ e.queries
   pub apart : HaveOwnQueries js

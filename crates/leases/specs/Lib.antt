@@ -12,6 +12,7 @@ pub mod Looks
 pub mod Registering
 pub mod Leasing
 pub mod Readers
+pub mod ByStream
 pub mod Told
 pub mod Runs
 pub mod Queues

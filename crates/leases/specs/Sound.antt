@@ -31,4 +31,4 @@ pub record IsSound (s : EngineState) : Type 0 where
       ≡ map is_gone (engine_in s).queries
   pub columns : HaveColumnNames (engine_in s).machine
   pub closed : HaveFewClosed (engine_in s).machine
-  pub readers : s.readers.items ≡ readers_of (engine_in s)
+  pub readers : s.readers ≡ readers_of (engine_in s)

@@ -13,6 +13,7 @@ ghost use Rattle.leases.specs.Shown.{engine_in};
 ghost use Rattle.leases.specs.Turns.{HasReady};
 ghost use Rattle.leases.specs.Views.{query_of};
 
+use crate::readers::Readers;
 use crate::registered::Registration;
 use crate::remains::Remains;
 use crate::state::EngineState;
@@ -40,7 +41,7 @@ impl EngineState {
             undropped: Undropped::new(alloc),
             registered: Vec::new(alloc),
             remains: Vec::new(alloc),
-            readers: Vec::new(alloc),
+            readers: Readers::new(alloc),
             leases: Vec::new(alloc),
             next: 0,
             slots: RunQueue::new(alloc),

@@ -57,4 +57,4 @@ pub returns-in-Err-clause-forgets : goal.returns-in-Err-clause-forgets
 returns-in-Err-clause-forgets c =
     let same : c.parts.inside.0.1.0.query ≡ c.args.parts.node.query = ap (λ (d : Parts). d.node.query) c.parts.view_is in
     let f = c.break_query.ensures.forgets in
-    record { undropped = f.undropped; readers = f.readers ∙ ap (λ n. filter (λ (r : WindowReader). not (r.query == n)) c.args.self.now.readers.items) same; leases = f.leases }
+    record { undropped = f.undropped; readers = f.readers ∙ ap (λ n. filter (λ (r : WindowReader). not (r.query == n)) c.args.self.now.readers) same; leases = f.leases }

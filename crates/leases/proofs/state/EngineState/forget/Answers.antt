@@ -27,4 +27,4 @@ returns-clause-ok c =
 pub returns-clause-sound : goal.returns-clause-sound
 returns-clause-sound c =
     forgotten_sound c.args.self.now _ c.requires (forgotten_closed c.args.self.now c.requires) (returns-clause-ok c)
-    (ap (λ (s : EngineState). s.leases.items) c.count_left.ensures.same) (ap (λ (s : EngineState). s.next) c.count_left.ensures.same) (ap (λ (s : EngineState). s.undropped) c.count_left.ensures.same) (ap (λ (s : EngineState). s.readers.items) c.count_left.ensures.same)
+    (ap (λ (s : EngineState). s.leases.items) c.count_left.ensures.same) (ap (λ (s : EngineState). s.next) c.count_left.ensures.same) (ap (λ (s : EngineState). s.undropped) c.count_left.ensures.same) (ap (λ (s : EngineState). s.readers) c.count_left.ensures.same)

@@ -28,5 +28,5 @@ returns-clause-sound c =
       gone = subst (λ (e : PlainEngine). map (λ q. q.is_dropped) e.machine.queries ≡ map is_gone e.queries) (sym is) refl;
       columns = subst (λ (e : PlainEngine). HaveColumnNames e.machine) (sym is) (search rules);
       closed = subst (λ (e : PlainEngine). HaveFewClosed e.machine) (sym is) (record { streams = tt; queries = tt });
-      readers = c.new-5.ensures.items ∙ ap readers_of (sym is);
+      readers = c.new-5.ensures ∙ ap readers_of (sym is);
     }

@@ -1,6 +1,6 @@
 //! Tests which calls count as changes, for which a thread waits that could not go on.
 
-use crate::agreement::next_done;
+use crate::calls::{Call, make};
 use crate::fixture::{declare, opened, ready, register};
 use crate::scarcity::is_drain_answered;
 use hub::{Hub, Seat};
@@ -9,31 +9,6 @@ use std::alloc::Global;
 use std::sync::Wait;
 use std::test::Fail;
 use std::thread::Threads;
-
-/// Says which call is made.
-#[derive(Clone, Copy, Debug)]
-enum Call {
-    Heartbeat,
-    HeartbeatNamed,
-    Drop,
-    Settle,
-    SettleAndForget,
-    Finish,
-    Drain,
-    DrainByQuery,
-    DrainSome,
-    DrainSomeAlone,
-    DrainSomeByQuery,
-    Forget,
-    ForgetIfDue,
-    Abandon,
-    Take,
-    Wake,
-    /// Drains, and then wakes. Nothing is ready by then, so that only the drain counts.
-    WakeIdle,
-    RefusedHeartbeat,
-    RefusedDrain,
-}
 
 /// Lists the calls that count.
 const CHANGES: [Call; 15] = [
@@ -61,57 +36,6 @@ const OTHERS: [Call; 4] = [
     Call::RefusedHeartbeat,
     Call::RefusedDrain,
 ];
-
-// Runs the next turn, and brings it back or gives it up.
-fn run_a_turn<R: Wait>(rt: &R, alloc: Global, hub: &Hub, finishes: bool) -> Result<bool, Fault> {
-    let Some(done) = next_done(rt, alloc, hub)? else {
-        return Ok(false);
-    };
-    if finishes {
-        hub.finish(rt, done)?;
-    } else {
-        hub.abandon(rt, done.parts().lease)?;
-    }
-    Ok(true)
-}
-
-// Makes the call. Returns whether it did what it is for, or was refused if it is to be.
-fn make<R: Threads + Wait + Sync>(
-    rt: &R,
-    alloc: Global,
-    hub: &Hub,
-    seat: &mut Seat,
-    call: Call,
-) -> Result<bool, Fault> {
-    match call {
-        Call::Heartbeat => Ok(hub.heartbeat(rt, seat, 0, 1).is_ok()),
-        Call::HeartbeatNamed => Ok(hub.heartbeat_named(rt, seat, "S", 1).is_ok()),
-        Call::Drop => Ok(hub.drop_query(rt, seat, 1).is_ok()),
-        Call::Settle => Ok(hub.settle(rt, seat)),
-        Call::SettleAndForget => Ok(hub.settle_and_forget(rt, seat, 1, false)),
-        Call::Finish => run_a_turn(rt, alloc, hub, true),
-        Call::Drain => Ok(hub.drain(rt, 256).is_ok()),
-        Call::DrainByQuery => Ok(hub.drain_by_query(rt, 256, 4).is_ok()),
-        Call::DrainSome => hub.drain_some(rt, 256, 1),
-        Call::DrainSomeAlone => hub.drain_some_alone(rt, 256, 1),
-        Call::DrainSomeByQuery => hub.drain_some_by_query(rt, 256, 1, 4),
-        Call::Forget => Ok(hub.forget(rt).is_ok()),
-        Call::ForgetIfDue => hub.forget_if_due(rt, 1),
-        Call::Abandon => run_a_turn(rt, alloc, hub, false),
-        Call::Take => Ok(hub.take(rt, seat, 0, 9).is_ok()),
-        Call::Wake => {
-            hub.wake(rt);
-            Ok(true)
-        }
-        Call::WakeIdle => {
-            let is_drained = hub.drain(rt, 256).is_ok();
-            hub.wake(rt);
-            Ok(is_drained)
-        }
-        Call::RefusedHeartbeat => Ok(hub.heartbeat_named(rt, seat, "T", 1).is_err()),
-        Call::RefusedDrain => Ok(hub.drain_some(rt, 0, 1).is_err()),
-    }
-}
 
 // Makes the call, and then a heartbeat, after which an operator is ready. Returns how many changes
 // both were, or `None` if the call did not do what it is for.

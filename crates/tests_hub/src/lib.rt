@@ -10,6 +10,8 @@ mod agreement;
 #[cfg(test)]
 mod by_query;
 #[cfg(test)]
+mod calls;
+#[cfg(test)]
 mod changes;
 #[cfg(test)]
 mod fixture;

@@ -6,12 +6,12 @@ use leases::Leased;
 use reference::Fault;
 use std::alloc::Global;
 use std::sync::Wait;
-use std::sync::atomic::{AtomicBool, Ordering};
+use std::sync::atomic::{AtomicBool, AtomicU64, Ordering};
 use std::test::Fail;
 use std::thread;
 use std::thread::Threads;
 use std::time::{Clock, Duration};
-use workers::{NoGate, help};
+use workers::{Gate, NoGate, help};
 
 /// Limits how often a client looks, with a millisecond of sleep each time.
 const LOOKS: u32 = 10_000;
@@ -199,6 +199,61 @@ fn rest_by_helper<R: Threads + Wait + Clock + Sync>(
 fn a_helper_runs_many_turns(rt: HostRuntime) -> Result<(), Fail> {
     let (hub, _seat) = long_ready(&rt, rt.alloc())?;
     assert_eq!(rt; rest_by_helper(&rt, rt.alloc(), &hub), Some(200));
+    Ok(())
+}
+
+/// Counts the turns that it hears of.
+#[derive(Drop)]
+struct Heard {
+    /// Counts those that went out.
+    out: AtomicU64,
+    /// Counts those that came back.
+    back: AtomicU64,
+}
+
+impl Gate for Heard {
+    fn before(&self, _lease: u64) {
+        self.out.fetch_add(1, Ordering::SeqCst);
+    }
+
+    fn after(&self, _lease: u64) {
+        self.back.fetch_add(1, Ordering::SeqCst);
+    }
+}
+
+// Has a helper run 1,200 turns of one row, which are more than it runs in place at once. Returns
+// how many answers wait then, and how many turns its gate heard of that went out and came back.
+fn heard_of_a_helper<R: Threads + Wait + Clock + Sync>(
+    rt: &R,
+    alloc: Global,
+    hub: &Hub,
+) -> (Option<usize>, u64, u64) {
+    let heard = Heard {
+        out: AtomicU64::new(0),
+        back: AtomicU64::new(0),
+    };
+    let gate = &heard;
+    let (waiting, ()) = thread::join(
+        rt,
+        move || rest_comes(rt, hub),
+        move || help(rt, alloc, hub, gate, 1, 4),
+    );
+    (
+        waiting,
+        gate.out.load(Ordering::SeqCst),
+        gate.back.load(Ordering::SeqCst),
+    )
+}
+
+#[test]
+fn a_helper_leases_turns_after_many_in_place(rt: HostRuntime) -> Result<(), Fail> {
+    let (hub, _seat) = long_ready(&rt, rt.alloc())?;
+    let (waiting, out, back) = heard_of_a_helper(&rt, rt.alloc(), &hub);
+    assert_eq!(rt; waiting, Some(200));
+    assert!(rt;
+        out > 0 && out == back,
+        "{out} went out, and {back} came back"
+    );
     Ok(())
 }
 

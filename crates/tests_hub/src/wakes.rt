@@ -394,3 +394,22 @@ fn a_finish_wakes_a_pool(rt: HostRuntime) -> Result<(), Fail> {
     assert_eq!(rt; woken_by(&rt, rt.alloc(), End::Finish)?, (true, Some(1)));
     Ok(())
 }
+
+// Runs all turns of a hub but the last, and keeps that one while a pool waits for it. Then it comes
+// back, and nothing is ready. Returns what `woken_by` does.
+fn woken_by_the_last<R: Threads + Wait + Clock + Sync>(
+    rt: &R,
+    alloc: Global,
+) -> Result<(bool, Option<usize>), Fault> {
+    let (hub, seat) = ready(rt, alloc, 5)?;
+    hub.drain_some_alone(rt, 256, 5)?;
+    let done = next_done(rt, alloc, &hub)?.ok_or(Fault::UnknownLease)?;
+    let is_woken = is_pool_woken(rt, alloc, &hub, seat, done, End::Finish);
+    Ok((is_woken, hub.waiting(rt, 0).ok()))
+}
+
+#[test]
+fn a_finish_that_leaves_nothing_wakes_a_pool(rt: HostRuntime) -> Result<(), Fail> {
+    assert_eq!(rt; woken_by_the_last(&rt, rt.alloc())?, (true, Some(1)));
+    Ok(())
+}

@@ -276,8 +276,8 @@ fn one_column(alloc: Global) -> Result<Vec<String>, AllocError> {
     Ok(columns)
 }
 
-// Opens a hub with one seat, which declared a stream of one column, from the instant 0.
-fn declared<R: Wait>(
+/// Opens a hub with one seat, which declared a stream of one column, from the instant 0.
+pub(crate) fn declared<R: Wait>(
     rt: &R,
     alloc: Global,
     stream: &str,
@@ -485,8 +485,8 @@ fn a_difference_is_told_while_its_client_stays(rt: HostRuntime) -> Result<(), Fa
     Ok(())
 }
 
-// Makes this many appends of one row.
-fn appends(alloc: Global, count: u32) -> Result<String, AllocError> {
+/// Makes this many appends of one row.
+pub(crate) fn appends(alloc: Global, count: u32) -> Result<String, AllocError> {
     let mut text = String::new(alloc);
     for _ in 0..count {
         text.push_str(APPEND)?;

@@ -13,13 +13,15 @@ use std::time::{Clock, Duration};
 use std::{io, thread};
 use wire::MemorySink;
 
-const BEGINNING: &str = r#"{"op":"stream","name":"S","columns":["a"],"from":0}
+/// Declares a stream and a query, appends three rows, and closes their instants.
+pub(crate) const BEGINNING: &str = r#"{"op":"stream","name":"S","columns":["a"],"from":0}
 {"op":"query","name":"q","text":"Select Istream(*) From S [Now]"}
 {"op":"append","stream":"S","rows":[[3,7],[1,5],[3,6]]}
 {"op":"heartbeat","stream":"S","at":3}
 "#;
 
-const ACCEPTED: &str = "{\"ok\":true}\n{\"ok\":true}\n{\"ok\":true}\n{\"ok\":true}\n";
+/// Is what that is answered.
+pub(crate) const ACCEPTED: &str = "{\"ok\":true}\n{\"ok\":true}\n{\"ok\":true}\n{\"ok\":true}\n";
 
 const DRAIN: &str = r#"{"op":"drain"}
 "#;
@@ -147,8 +149,8 @@ impl Ending {
     }
 }
 
-// Serves this many connections, by this many workers.
-fn serve_some<R: Threads + Wait + Sync>(
+/// Serves this many connections, by this many workers.
+pub(crate) fn serve_some<R: Threads + Wait + Sync>(
     rt: &R,
     alloc: Global,
     listener: TcpListener,

@@ -455,10 +455,28 @@ enum Act {
     Calls(Call),
     /// Answers lines by a seat that settles.
     Settles(&'static str),
-    /// Answers lines by one that does not.
+    /// Answers lines by a seat of another hub, which differs.
+    Differs(&'static str),
+    /// Answers lines by one that does not settle.
     Serves(&'static str),
     /// Does so, and has a pool for drains.
     Runs(&'static str),
+}
+
+// Answers lines by a seat of another hub. Returns whether it keeps its receipt.
+fn serve_other<R: Threads + Wait + Sync>(
+    rt: &R,
+    alloc: Global,
+    hub: &Hub,
+    lines: &str,
+) -> Result<bool, Fault> {
+    let (other, mut seat) = opened(alloc)?;
+    declare(rt, alloc, &other, &mut seat)?;
+    let mut source = MemorySource::new(lines.as_bytes());
+    let mut sink = MemorySink::new(alloc);
+    let connection = Connection::new(rt, alloc, hub, 256, 0);
+    let served = connection.serve(&mut source, &mut sink, &mut seat);
+    Ok(served.is_ok() && seat.receipts().len() == 1)
 }
 
 // Does it. Returns whether it did what it is for.
@@ -477,6 +495,7 @@ fn does<R: Threads + Wait + Sync>(
             let connection = Connection::new(rt, alloc, hub, 256, 0);
             connection.serve(&mut source, &mut sink, seat).is_ok()
         }
+        Act::Differs(lines) => matches!(serve_other(rt, alloc, hub, lines), Ok(true)),
         Act::Serves(lines) => {
             let mut source = MemorySource::new(lines.as_bytes());
             serve_connection(rt, alloc, &mut source, &mut sink, hub, seat, 256).is_ok()
@@ -582,8 +601,8 @@ const STATUS_TWICE: &str = "{\"op\":\"status\"}\n{\"op\":\"status\"}\n";
 const FORGET: &str = "{\"op\":\"forget\"}\n";
 
 // Lists how many of the two threads lines wake. The settle of a seat wakes one if its client may
-// have left work; a look by a seat without receipts wakes all.
-const ASKED: [(Act, u64); 14] = [
+// have left work. A look wakes all by a seat without receipts, or one that differed before.
+const ASKED: [(Act, u64); 16] = [
     (Act::Settles(HEARTBEAT), 1),
     (Act::Serves(HEARTBEAT), 2),
     (Act::Runs(HEARTBEAT), 2),
@@ -596,6 +615,8 @@ const ASKED: [(Act, u64); 14] = [
     (Act::Serves(PEEK), 0),
     (Act::Settles(STATUS), 1),
     (Act::Settles(STATUS_TWICE), 2),
+    (Act::Differs(STATUS), 1),
+    (Act::Differs(STATUS_TWICE), 2),
     (Act::Settles(FORGET), 2),
     (Act::Serves(FORGET), 2),
 ];

@@ -221,12 +221,13 @@ impl Gate for Heard {
     }
 }
 
-// Has a helper run 1,200 turns of one row, which are more than it runs in place at once. Returns
-// how many answers wait then, and how many turns its gate heard of that went out and came back.
+// Has a helper run turns of at most so many rows until nothing is ready. Returns how many answers
+// wait then, and how many turns its gate heard of that went out and came back.
 fn heard_of_a_helper<R: Threads + Wait + Clock + Sync>(
     rt: &R,
     alloc: Global,
     hub: &Hub,
+    rows: u32,
 ) -> (Option<usize>, u64, u64) {
     let heard = Heard {
         out: AtomicU64::new(0),
@@ -236,7 +237,10 @@ fn heard_of_a_helper<R: Threads + Wait + Clock + Sync>(
     let (waiting, ()) = thread::join(
         rt,
         move || rest_comes(rt, hub),
-        move || help(rt, alloc, hub, gate, 1, 4),
+        move || match rows {
+            1 => help(rt, alloc, hub, gate, 1, 4),
+            _ => help(rt, alloc, hub, gate, 256, 4),
+        },
     );
     (
         waiting,
@@ -245,15 +249,19 @@ fn heard_of_a_helper<R: Threads + Wait + Clock + Sync>(
     )
 }
 
+// With one row each there are 1,200 turns, more than a helper runs in place at once. With 256 there
+// are few.
 #[test]
 fn a_helper_leases_turns_after_many_in_place(rt: HostRuntime) -> Result<(), Fail> {
-    let (hub, _seat) = long_ready(&rt, rt.alloc())?;
-    let (waiting, out, back) = heard_of_a_helper(&rt, rt.alloc(), &hub);
-    assert_eq!(rt; waiting, Some(200));
-    assert!(rt;
-        out > 0 && out == back,
-        "{out} went out, and {back} came back"
-    );
+    for (rows, leases) in [(1, true), (256, false)] {
+        let (hub, _seat) = long_ready(&rt, rt.alloc())?;
+        let (waiting, out, back) = heard_of_a_helper(&rt, rt.alloc(), &hub, rows);
+        assert_eq!(rt; waiting, Some(200));
+        assert!(rt;
+            (out > 0) == leases && out == back,
+            "at {rows} rows, {out} went out and {back} came back"
+        );
+    }
     Ok(())
 }
 

@@ -1,15 +1,18 @@
 """What the options of the programs mean, as a user meets them."""
 
-import ctypes
 import itertools
 import json
 import os
+import resource
 import socket
+import struct
 import subprocess
 import tempfile
+import time
 import unittest
-from collections.abc import Iterator
-from contextlib import contextmanager, suppress
+from bisect import bisect_left
+from collections.abc import Callable, Iterator
+from contextlib import ExitStack, contextmanager, suppress
 from pathlib import Path
 
 from cqld.programs import find_program
@@ -25,26 +28,63 @@ SETUP = (
 
 DONE = '{"ok":true}\n'
 
+DRAIN = b'{"op":"drain"}\n'
+
 EMPTY_APPEND = '{"op":"append","stream":"S","rows":[]}\n'
 
 CALLS = 100_100  # more than a history of 100,000 calls has room for
+
+EIGHT = ",".join(f'"{column}"' for column in "abcdefgh")
+
+# More than 16,777,216 values in a history, which no query needs: a row counts as 36.
+MANY_ROWS = [f'{{"op":"stream","name":"S","columns":[{EIGHT}],"from":0}}\n'] + [
+    f'{{"op":"append","stream":"S","rows":[{",".join([f"[{at},1,2,3,4,5,6,7,8]"] * 1_024)}]}}\n'
+    f'{{"op":"heartbeat","stream":"S","at":{at}}}\n'
+    for at in range(480)
+]
 
 MANY_CALLS = [SETUP] + [EMPTY_APPEND * 100] * (CALLS // 100)
 
 LISTEN = "0A"  # the state of a socket in /proc/net/tcp
 LOOPBACK = "0100007F"  # 127.0.0.1 there
-PIDFD_GETFD = 438  # the number of the call that copies a file of another process
+
+MANY_CONNECTIONS = 1_100  # more than a thousand, and than 1,024
+
+# What help says that the options of a program take.
+HELP = {
+    "cqlrun": {
+        "plain": "plain engine",
+        "turn <R>": "1 to 1024 [default: 256]",
+        "workers <N>": "1 to 64",
+        "forget <V>": "0 to 2^40",
+    },
+    "cqld": {
+        "port <P>": "0 to 65535",
+        "workers <N>": "1 to 64",
+        "clients <C>": "1 to 64",
+        "serve <K>": "0 to 1000000",
+        "idle <S>": "1 to 86400",
+        "forget <V>": "0 to 2^40",
+    },
+}
+
+EVERY = 1_000_000_000  # growths: more than there are
 
 REFUSED = "refused\n"  # what a malloc says on standard error that refused a growth
 
 
 def said(
-    program: str, *words: str, lines: str = ""
+    program: str, *words: str, lines: str = "", variables: dict[str, str] | None = None
 ) -> "subprocess.CompletedProcess[str]":
-    """Runs a program with these words and this input."""
+    """Runs a program with these words, this input, and these variables of the environment."""
     command = [find_program(program), *words]
     return subprocess.run(
-        command, input=lines, capture_output=True, text=True, timeout=PATIENCE
+        command,
+        input=lines,
+        capture_output=True,
+        text=True,
+        timeout=PATIENCE,
+        env={**os.environ, **(variables or {})},
     )
 
 
@@ -70,11 +110,16 @@ def replies(instants: int) -> str:
 
 @contextmanager
 def listening(
-    *words: str, clients: int = 1, files: int | None = None
+    *words: str,
+    clients: int = 1,
+    files: int | None = None,
+    variables: dict[str, str] | None = None,
+    errors: int = subprocess.PIPE,
 ) -> Iterator[tuple["subprocess.Popen[str]", int]]:
     """Yields a server of some clients with these words, and its port.
 
-    It may hold this many open files, if a number is given.
+    It may hold this many open files, if a number is given. It has these variables beside those of
+    the environment, and says of errors where it is told.
     """
     command = [find_program("cqld"), "--port=0", f"--clients={clients}", *words]
     if not any(word.startswith("--workers") for word in words):
@@ -82,7 +127,11 @@ def listening(
     if files is not None:
         command = ["prlimit", f"--nofile={files}:{files}", *command]
     server = subprocess.Popen(
-        command, stdout=subprocess.PIPE, stderr=subprocess.PIPE, text=True
+        command,
+        stdout=subprocess.PIPE,
+        stderr=errors,
+        text=True,
+        env={**os.environ, **(variables or {})},
     )
     try:
         assert server.stdout is not None
@@ -108,6 +157,128 @@ def rest_of(connection: socket.socket) -> bytes:
     return b"".join(parts)
 
 
+def answers(connection: socket.socket) -> bool:
+    """Returns whether a server answers a drain of this connection."""
+    connection.sendall(DRAIN)
+    return connection.recv(100) == DONE.encode()
+
+
+def answered(port: int, count: int) -> int:
+    """Returns how many of so many connections are answered. Some fifty wait at a time."""
+    found = 0
+    while count > 0:
+        with ExitStack() as stack:
+            some = [stack.enter_context(connected(port)) for _ in range(min(count, 50))]
+            for connection in some:
+                connection.sendall(DRAIN)
+                connection.shutdown(socket.SHUT_WR)
+            found += sum(rest_of(connection) == DONE.encode() for connection in some)
+            count -= len(some)
+    return found
+
+
+def asked(connection: socket.socket, lines: str) -> list[str]:
+    """Returns the replies to these lines."""
+    connection.sendall(lines.encode())
+    with connection.makefile("r", newline="\n") as replies:
+        return [replies.readline() for _ in range(lines.count("\n"))]
+
+
+def reset(connection: socket.socket) -> None:
+    """Closes a connection by a reset, without a word of an end."""
+    connection.setsockopt(socket.SOL_SOCKET, socket.SO_LINGER, struct.pack("ii", 1, 0))
+    connection.close()
+
+
+def send_half(connection: socket.socket) -> None:
+    """Sends a line without its end."""
+    connection.sendall(DRAIN[:8])
+
+
+def end(connection: socket.socket) -> None:
+    """Says that nothing more comes, and waits until the server has closed."""
+    connection.shutdown(socket.SHUT_WR)
+    rest_of(connection)
+
+
+def send_half_and_reset(connection: socket.socket) -> None:
+    """Sends a line without its end, and is reset."""
+    send_half(connection)
+    reset(connection)
+
+
+def send_half_and_end(connection: socket.socket) -> None:
+    """Sends a line without its end, and says that nothing more comes."""
+    send_half(connection)
+    end(connection)
+
+
+def send_too_much(connection: socket.socket) -> None:
+    """Sends a line that is too long, and takes no reply."""
+    connection.sendall(b" " * 70_000 + b"\n" + DRAIN * 100)
+
+
+def ask_to_forget(connection: socket.socket) -> None:
+    """Asks the server to forget."""
+    asked(connection, '{"op":"forget"}\n')
+
+
+# Ways in which a client leaves that was answered before.
+LEAVES: tuple[Callable[[socket.socket], None], ...] = (
+    socket.socket.close,
+    reset,
+    send_half,
+    end,
+    send_half_and_reset,
+    send_half_and_end,
+    send_too_much,
+    ask_to_forget,
+)
+
+
+def threads_of(process: int) -> list[tuple[str, str]]:
+    """Returns of each thread of a process its state, and how often and how long it has run."""
+    found = []
+    for task in sorted(Path(f"/proc/{process}/task").iterdir()):
+        state, *rest = Path(task, "stat").read_text().rsplit(")", 1)[1].split()
+        switches = [
+            line for line in Path(task, "status").read_text().splitlines() if "ctxt" in line
+        ]
+        found.append((state, " ".join([*rest[10:12], *switches])))
+    return found
+
+
+def is_idle(process: int) -> bool:
+    """Returns whether for a second no thread of a process runs. It looks at ten seconds."""
+    for _ in range(10):
+        before = threads_of(process)
+        time.sleep(1)
+        if before == threads_of(process) and all(state == "S" for state, _ in before):
+            return True
+    return False
+
+
+def options_of(*words: str) -> dict[tuple[int, int], int]:
+    """Returns the options that a server with these words gives the socket of a connection.
+
+    They are by level and number. The server says them itself, by a `setsockopt` that is loaded
+    before it.
+    """
+    with tempfile.TemporaryDirectory() as folder:
+        library = compiled(Path(__file__).with_name("told_options.c"), folder)
+        variables = {"LD_PRELOAD": str(library)}
+        with listening("--serve=1", *words, variables=variables) as (server, port):
+            with connected(port) as client:
+                assert answers(client)
+            _, errors = server.communicate(timeout=PATIENCE)
+    found = {}
+    for line in errors.splitlines():
+        word, level, option, value = line.split()
+        assert word == "option"
+        found[int(level), int(option)] = int(value)
+    return found
+
+
 def listeners(port: int) -> list[tuple[str, str]]:
     """Returns where this machine listens at a port: tables of the kernel, and addresses there."""
     found = []
@@ -121,31 +292,6 @@ def listeners(port: int) -> list[tuple[str, str]]:
             if state == LISTEN and int(number, 16) == port:
                 found.append((table, address))
     return found
-
-
-def other_end(server: int, client: socket.socket) -> socket.socket:
-    """Returns a copy of a server's own end of a connection.
-
-    It is the same socket, so it has the options that the server set. The system lets the process
-    that started the server copy it.
-    """
-    system = ctypes.CDLL(None, use_errno=True)
-    process = os.pidfd_open(server)
-    try:
-        for path in Path(f"/proc/{server}/fd").iterdir():
-            if not path.is_socket():
-                continue
-            file = system.syscall(PIDFD_GETFD, process, int(path.name), 0)
-            if file < 0:
-                raise OSError(ctypes.get_errno(), "pidfd_getfd")
-            copy = socket.socket(fileno=file)
-            if copy.getsockopt(socket.SOL_SOCKET, socket.SO_ACCEPTCONN) == 0:
-                if copy.getpeername() == client.getsockname():
-                    return copy
-            copy.close()
-    finally:
-        os.close(process)
-    raise AssertionError("the server has no such connection")
 
 
 def most_memory(process: int) -> int:
@@ -187,23 +333,41 @@ def most_memory_of_a_server(parts: list[str], *words: str) -> int:
         return most_memory(server.pid)
 
 
-def refusing(folder: str) -> Path:
-    """Makes a malloc in this folder that is loaded before a program, and refuses one growth."""
-    library = Path(folder, "refuse.so")
-    source = ROOT / "bench/refusals_source/refuse.c"
-    words = ["cc", "-shared", "-fPIC", "-O1", "-o", str(library), str(source)]
+def compiled(source: Path, folder: str) -> Path:
+    """Makes a library in this folder that is loaded before a program."""
+    library = Path(folder, f"{source.stem}.so")
+    words = ["cc", "-shared", "-fPIC", "-O1", "-o", str(library), str(source), "-ldl"]
     subprocess.run(words, check=True, timeout=PATIENCE)
     return library
 
 
-def said_without(library: Path, growth: int, lines: str) -> tuple[list[str], bool]:
+def refusing(folder: str) -> Path:
+    """Makes a malloc in this folder that is loaded before a program, and refuses growths."""
+    return compiled(ROOT / "bench/refusals_source/refuse.c", folder)
+
+
+def refusals(library: Path, growth: int, count: int = 1) -> dict[str, str]:
+    """Returns the variables of a program of which so many growths are refused, from this one on.
+
+    Growths are counted from 1, among all of the program and its threads.
+    """
+    return {
+        "LD_PRELOAD": str(library),
+        "REFUSE_AT": str(growth),
+        "REFUSE_COUNT": str(count),
+    }
+
+
+def said_without(
+    library: Path, growth: int, lines: str, count: int = 1
+) -> tuple[list[str], bool]:
     """Returns what one connection is answered to these lines, and whether a growth was refused.
 
-    The growth has this number, counted from 1, among all of the server and its threads. There are
-    fewer replies than lines, or none, if the server or the connection could not start without it.
+    So many are, from this one on. There are fewer replies than lines, or none, if the server or the
+    connection could not start without them.
     """
     command = [find_program("cqld"), "--port=0", "--workers=1", "--clients=1", "--serve=1"]
-    growths = {**os.environ, "LD_PRELOAD": str(library), "REFUSE_AT": str(growth)}
+    growths = {**os.environ, **refusals(library, growth, count)}
     pipe = subprocess.PIPE
     with subprocess.Popen(command, env=growths, stdout=pipe, stderr=pipe, text=True) as server:
         try:
@@ -228,6 +392,86 @@ class Programs(unittest.TestCase):
         for program in ("cqlrun", "cqld"):
             ran = said(program, "--version")
             self.assertEqual((ran.returncode, ran.stdout), (0, f"{program} 0.9.0\n"))
+
+    def test_help_says_what_each_option_takes(self) -> None:
+        for program, options in HELP.items():
+            ran = said(program, "--help")
+            self.assertEqual((ran.returncode, ran.stderr), (0, ""))
+            parts = " ".join(ran.stdout.split()).split(" --")
+            for option, takes in options.items():
+                self.assertTrue(any(it.startswith(option) and takes in it for it in parts), option)
+
+    def test_a_failed_write_of_help_is_told(self) -> None:
+        for program in ("cqlrun", "cqld"):
+            for word in ("--help", "--version"):
+                with open("/dev/full", "w") as full:
+                    ran = subprocess.run(
+                        [find_program(program), word],
+                        stdin=subprocess.DEVNULL,
+                        stdout=full,
+                        stderr=subprocess.PIPE,
+                        text=True,
+                        timeout=PATIENCE,
+                    )
+                self.assertEqual((ran.returncode, ran.stderr), (1, f"{program}: write failed\n"))
+
+    def test_a_word_that_is_no_text_is_a_wrong_command_line(self) -> None:
+        for program in ("cqlrun", "cqld"):
+            ran = said(program, os.fsdecode(b"\xff"))
+            self.assertEqual((ran.returncode, ran.stdout), (2, ""))
+            self.assertEqual(ran.stderr, f"{program}: a word is not UTF-8\n")
+
+    def test_words_that_ask_for_no_server_are_told(self) -> None:
+        right = {"--port": "0", "--workers": "1", "--clients": "1"}
+        wrong = {
+            "--port": ["65536", "-1", "x", None],
+            "--workers": ["0", "65", "x", None],
+            "--clients": ["0", "65", "x", None],
+            "--serve": ["-1", "1000001", "x"],
+            "--forget": ["-1", "1099511627777", "x"],
+        }
+        for option, values in wrong.items():
+            for value in values:
+                words = {**right, option: value}
+                ran = said("cqld", *(f"{it}={of}" for it, of in words.items() if of is not None))
+                self.assertEqual((ran.returncode, ran.stdout), (2, ""))
+                self.assertIn(option, ran.stderr)
+
+    def test_a_program_that_lacks_memory_at_the_start_says_so(self) -> None:
+        words = ("--port=0", "--workers=1", "--clients=1", "--serve=0")
+        for program, words in ("cqlrun", ()), ("cqld", words):
+            with tempfile.TemporaryDirectory() as folder:
+                library = refusing(folder)
+                lacks = 0
+                for growth in itertools.count(1):
+                    ran = said(program, *words, variables=refusals(library, growth))
+                    errors = ran.stderr.replace(REFUSED, "")
+                    if ran.returncode == 0:
+                        self.assertEqual(errors, "")
+                        self.assertEqual(bool(ran.stdout), program == "cqld")
+                    else:
+                        lacks += 1
+                        self.assertEqual(ran.returncode, 3, f"growth {growth}")
+                        self.assertRegex(errors, f"^{program}: (out of memory|thread failed)\n$")
+                    if REFUSED not in ran.stderr:
+                        break
+                self.assertGreater(lacks, 0)
+
+    def test_a_server_listens_at_the_port_that_it_is_told(self) -> None:
+        for _ in range(20):
+            with socket.create_server(("127.0.0.1", 0)) as free:
+                port = free.getsockname()[1]
+            ran = said("cqld", f"--port={port}", "--workers=1", "--clients=1", "--serve=0")
+            if ran.returncode == 0:  # nobody else took it meanwhile
+                break
+        self.assertEqual((ran.returncode, ran.stderr), (0, ""))
+        self.assertEqual(ran.stdout, f"cqld: listening on 127.0.0.1:{port}\n")
+
+    def test_a_port_that_is_taken_is_told(self) -> None:
+        with listening() as (_, port):
+            ran = said("cqld", f"--port={port}", "--workers=1", "--clients=1", "--serve=0")
+        self.assertEqual((ran.returncode, ran.stdout), (1, ""))
+        self.assertEqual(ran.stderr, "cqld: bind failed\n")
 
     def test_seconds_of_silence_out_of_range_are_a_wrong_command_line(self) -> None:
         for seconds in ("0", "86401", "x"):
@@ -289,6 +533,21 @@ class Programs(unittest.TestCase):
             self.assertEqual(server.wait(PATIENCE), 1)
             self.assertEqual(server.stderr.read(), "")
 
+    def test_a_failed_accept_is_told_after_clients_have_left(self) -> None:
+        with listening(clients=2) as (server, port):
+            for _ in range(4):
+                with connected(port) as client:
+                    self.assertTrue(answers(client))
+                    end(client)
+            # Three files of its own, and the listener: no accept that begins from now on is well.
+            resource.prlimit(server.pid, resource.RLIMIT_NOFILE, (4, 4))
+            with connected(port) as client:
+                self.assertTrue(answers(client))
+                assert server.stderr is not None
+                self.assertEqual(server.stderr.readline(), "cqld: accept failed\n")
+                self.assertTrue(answers(client))
+            self.assertEqual(server.wait(PATIENCE), 1)
+
     def test_a_thread_that_cannot_be_started_ends_the_server(self) -> None:
         # room for some twenty stacks of 8 MiB
         limited = ("prlimit", "--as=200000000", "--stack=8388608")
@@ -298,10 +557,100 @@ class Programs(unittest.TestCase):
         )
         self.assertEqual((ran.returncode, ran.stderr), (3, "cqld: thread failed\n"))
 
+    def test_each_thread_that_cannot_be_started_ends_the_server(self) -> None:
+        words = ("--port=0", "--workers=2", "--clients=2", "--serve=0")
+        with tempfile.TemporaryDirectory() as folder:
+            library = compiled(ROOT / "bench/refusals_source/threads.c", folder)
+            for thread in range(1, 6):
+                variables = {"LD_PRELOAD": str(library), "REFUSE_THREAD": str(thread)}
+                ran = said("cqld", *words, variables=variables)
+                errors = ran.stderr.replace("started\n", "")
+                if thread == 5:  # there are four
+                    self.assertEqual((ran.returncode, errors), (0, ""))
+                else:
+                    self.assertEqual(ran.returncode, 3)
+                    self.assertEqual(errors, f"{REFUSED}cqld: thread failed\n")
+
     def test_workers_and_clients_are_threads(self) -> None:
-        with listening("--workers=3", clients=2) as (server, _):
-            threads = Path(f"/proc/{server.pid}/task")
-            wait_until(lambda: len(list(threads.iterdir())) == 6)  # and the one that waits
+        for workers, clients in (3, 2), (64, 1), (64, 64):
+            with listening(f"--workers={workers}", clients=clients) as (server, _):
+                threads = Path(f"/proc/{server.pid}/task")
+                count = workers + clients + 1  # with the one that waits
+                wait_until(lambda: len(list(threads.iterdir())) == count)
+
+    def test_as_many_clients_as_there_may_be_are_served_at_once(self) -> None:
+        with listening(clients=64) as (_, port), ExitStack() as stack:
+            clients = [stack.enter_context(connected(port)) for _ in range(64)]
+            for client in clients * 2:
+                self.assertTrue(answers(client))
+
+    def test_a_client_that_leaves_makes_room_for_one(self) -> None:
+        with listening(clients=2) as (_, port):
+            for leave in LEAVES * 2:
+                with connected(port) as client:
+                    self.assertTrue(answers(client))
+                    leave(client)
+                with connected(port) as first, connected(port) as second:
+                    with connected(port) as third:  # served after the others: it came after them
+                        self.assertTrue(answers(first) and answers(second))
+                        third.sendall(DRAIN)
+                        third.settimeout(0.05)
+                        with self.assertRaises(TimeoutError, msg=leave.__name__):
+                            third.recv(1)
+                        self.assertTrue(answers(first) and answers(second))
+                        first.close()
+                        third.settimeout(PATIENCE)
+                        self.assertEqual(third.recv(100), DONE.encode())
+
+    def test_a_silent_client_that_is_closed_makes_room_for_one(self) -> None:
+        with listening("--idle=1", clients=2) as (_, port):
+            for _ in range(2):
+                with connected(port) as first, connected(port) as second:
+                    self.assertTrue(answers(first) and answers(second))
+                    self.assertEqual(rest_of(first) + rest_of(second), b"")
+
+    def test_a_server_serves_more_than_1024_connections(self) -> None:
+        with listening(files=6) as (server, port):
+            self.assertEqual(answered(port, MANY_CONNECTIONS), MANY_CONNECTIONS)
+            self.assertIsNone(server.poll())
+
+    def test_a_server_serves_as_many_connections_as_it_is_told(self) -> None:
+        with listening(f"--serve={MANY_CONNECTIONS}") as (server, port):
+            self.assertEqual(answered(port, MANY_CONNECTIONS - 1), MANY_CONNECTIONS - 1)
+            self.assertIsNone(server.poll())
+            self.assertEqual(answered(port, 1), 1)
+            self.assertEqual(server.wait(PATIENCE), 0)
+
+    def test_a_server_of_silent_clients_is_idle(self) -> None:
+        drained = script(20)
+        left_to_workers = "".join(
+            line for line in drained.splitlines(True) if '"drain"' not in line
+        )
+        for lines in drained, left_to_workers:
+            with listening("--workers=2", "--idle=600", clients=3) as (server, port):
+                with connected(port) as client, connected(port) as other:
+                    asked(client, lines)
+                    self.assertTrue(is_idle(server.pid))
+                    self.assertTrue(answers(client) and answers(other))
+
+    def test_workers_that_lack_memory_wait(self) -> None:
+        lines = script(1)
+        lines = lines[: lines.index('{"op":"drain"')]
+        with tempfile.TemporaryDirectory() as folder:
+            library = refusing(folder)
+
+            def are_done(growth: int) -> bool:
+                said, _ = said_without(library, growth, lines, EVERY)
+                return said == [DONE.strip()] * lines.count("\n")
+
+            # The client does without this growth and all after it, and a worker's turn wants some.
+            growth = 1 + bisect_left(range(1, 10_000), True, key=are_done)
+            silent = subprocess.DEVNULL
+            variables = refusals(library, growth, EVERY)
+            with listening(variables=variables, errors=silent) as (server, port):
+                with connected(port) as client:
+                    self.assertEqual("".join(asked(client, lines)), DONE * lines.count("\n"))
+                    self.assertTrue(is_idle(server.pid))
 
     def test_rows_of_a_turn_change_no_reply(self) -> None:
         for rows in ("1", "7", "1024"):
@@ -365,6 +714,15 @@ class Programs(unittest.TestCase):
         many = most_memory_of_a_pool(MANY_CALLS, 16 * 2 * CALLS)
         self.assertGreater(many, few + CALLS * 100 // 1024)
 
+    def test_a_server_that_is_told_nothing_forgets_after_64_megabytes(self) -> None:
+        half = most_memory_of_a_server(MANY_ROWS, "--forget=4194304")
+        told_nothing = most_memory_of_a_server(MANY_ROWS)
+        twice = most_memory_of_a_server(MANY_ROWS, "--forget=16777216")
+        all_of_it = most_memory_of_a_server(MANY_ROWS, "--forget=0")
+        self.assertGreater(told_nothing, half + 16_384)
+        self.assertGreater(twice, told_nothing + 16_384)
+        self.assertGreater(all_of_it, told_nothing + 16_384)
+
     def test_forgetting_wants_a_pool(self) -> None:
         ran = said("cqlrun", "--forget=1", lines=script(1))
         self.assertEqual((ran.returncode, ran.stdout), (2, ""))
@@ -405,18 +763,14 @@ class Programs(unittest.TestCase):
             self.assertEqual(server.wait(PATIENCE), 0)
 
     def test_what_is_sent_leaves_at_once(self) -> None:
-        with listening("--serve=1") as (server, port):
-            with connected(port) as client:
-                client.sendall(b'{"op":"drain"}\n')
-                self.assertEqual(client.recv(100), DONE.encode())
-                try:
-                    end = other_end(server.pid, client)
-                except PermissionError:
-                    self.skipTest("this system lets nobody copy a socket of a child")
-                with end:
-                    option = end.getsockopt(socket.IPPROTO_TCP, socket.TCP_NODELAY)
-                self.assertEqual(option, 1)
-            self.assertEqual(server.wait(PATIENCE), 0)
+        options = options_of()
+        self.assertEqual(options.get((socket.IPPROTO_TCP, socket.TCP_NODELAY)), 1)
+
+    def test_silence_is_limited_as_the_words_say(self) -> None:
+        for words, seconds in ((), 0), (("--idle=86400",), 86_400):
+            options = options_of(*words)
+            for option in (socket.SO_RCVTIMEO, socket.SO_SNDTIMEO):
+                self.assertEqual(options.get((socket.SOL_SOCKET, option), 0), seconds)
 
     def test_a_server_listens_only_on_loopback(self) -> None:
         with listening() as (_, port):

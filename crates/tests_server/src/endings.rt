@@ -5,7 +5,7 @@ use crate::options::{appends, declared};
 use crate::server::{ACCEPTED, BEGINNING, Ending, send, serve_some};
 use reference::Fault;
 use served::Connection;
-use std::alloc::{AllocError, Global};
+use std::alloc::Global;
 use std::io::{BufRead, BufReader, Write};
 use std::net::{Net, SocketAddr, TcpListener, TcpStream};
 use std::sync::Wait;
@@ -23,6 +23,11 @@ const PEEK: &str = "{\"op\":\"peek\",\"query\":\"q\",\"limit\":2}\n";
 const TAKE: &str = "{\"op\":\"take\",\"query\":\"q\",\"limit\":1}\n";
 
 const DROP: &str = "{\"op\":\"drop\",\"query\":\"q\"}\n";
+
+const PLAN: &str = "{\"op\":\"plan\",\"query\":\"q\"}\n";
+
+const REGISTRATION: &str = r#"{"op":"query","name":"q","text":"Select Istream(*) From S [Now]"}
+"#;
 
 /// Asks how far all is, drains, and takes all.
 const LAST: &str = r#"{"op":"status"}
@@ -232,7 +237,7 @@ fn looks_show_what_another_client_did(rt: HostRuntime) -> Result<(), Fail> {
     Ok(())
 }
 
-// Answers appends and then lines by a seat that settles, over a hub that forgets after so many
+// Registers a query, appends, and then answers lines by a seat that settles, over a hub that forgets after so many
 // values. Returns how many entries the opening replaces, how many follow, how many calls were
 // settled, and how many were compared only by their numbers.
 fn counts_after<R: Threads + Wait + Sync>(
@@ -243,7 +248,8 @@ fn counts_after<R: Threads + Wait + Sync>(
     forget: u64,
 ) -> Result<Option<(u64, usize, u64, u64)>, Fault> {
     let (hub, mut seat) = declared(rt, alloc, "S", 1_000)?;
-    let mut text = appends(alloc, count)?;
+    let mut text = String::from_str(alloc, REGISTRATION)?;
+    text.push_str(appends(alloc, count)?.as_str())?;
     text.push_str(lines)?;
     let mut source = MemorySource::new(text.as_str().as_bytes());
     let mut sink = MemorySink::new(alloc);
@@ -267,23 +273,17 @@ fn counts_after<R: Threads + Wait + Sync>(
     }
 }
 
-// Lists, of a seat with a receipt of one call, how many appends come, which lines after them, after
-// how many values the hub forgets, and the counts. An append counts 24 values and the call 16. So
-// 376 are there when the seat holds 16 receipts, and 384 when it holds as many again.
-const COUNTS: [(u32, &str, u64, (u64, usize, u64, u64)); 2] = [
-    (3, ALL_LOOKS, 0, (0, 6, 6, 0)),
-    (40, "", 376, (32, 9, 41, 0)),
+// Lists, of a seat with receipts of two calls, how many appends come, which lines after them, after
+// how many values the hub forgets, and the counts. An append counts 24 values, and the two calls
+// count 32. So 368 are there when the seat holds 16 receipts, and 384 when it holds as many again.
+const COUNTS: [(u32, &str, u64, (u64, usize, u64, u64)); 6] = [
+    (3, STATUS, 0, (0, 5, 5, 0)),
+    (3, PEEK, 0, (0, 5, 5, 0)),
+    (3, PLAN, 0, (0, 5, 5, 0)),
+    (3, DRAIN, 0, (0, 5, 5, 0)),
+    (3, DROP, 0, (0, 6, 6, 0)),
+    (40, "", 368, (32, 10, 42, 0)),
 ];
-
-/// Registers a query, looks at all, and drops it.
-const ALL_LOOKS: &str = r#"{"op":"query","name":"q","text":"Select Istream(*) From S [Now]"}
-{"op":"status"}
-{"op":"peek","query":"q","limit":1}
-{"op":"plan","query":"q"}
-{}
-{"op":"drain"}
-{"op":"drop","query":"q"}
-"#;
 
 #[test]
 fn looks_leave_the_history_and_a_seat_settles_at_16_receipts(rt: HostRuntime) -> Result<(), Fail> {

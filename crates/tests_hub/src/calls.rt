@@ -20,14 +20,14 @@ use wire::{MemorySink, MemorySource};
 /// Limits how often a client looks, with a millisecond of sleep each time.
 const LOOKS: u32 = 10_000;
 
-/// Limits the looks where a thread is to sleep on.
+/// Limits the looks where nobody more is to come back.
 const FEW_LOOKS: u32 = 50;
 
 /// Counts the milliseconds after which a thread waits, most likely.
 const REST: u64 = 50;
 
-/// Limits how often two threads are watched of which one is to sleep on. It may be late to wait,
-/// and find the change by itself.
+/// Limits how often two threads are watched if one is to sleep on. It may be late to wait, and find
+/// the change by itself.
 const TRIES: u32 = 10;
 
 /// Says which call is made.
@@ -437,10 +437,10 @@ fn wait_twice<R: Threads + Wait + Sync>(rt: &R, hub: &Hub, seen: u64, waiters: &
     );
 }
 
-// Looks until this counter is 2, at most so often. Returns what it is at last.
-fn counted<R: Clock>(rt: &R, counter: &AtomicU64, looks: u32) -> u64 {
+// Looks until this counter is what is wanted, at most so often. Returns what it is at last.
+fn counted<R: Clock>(rt: &R, counter: &AtomicU64, wanted: u64, looks: u32) -> u64 {
     for _ in 0..looks {
-        if counter.load(Ordering::SeqCst) >= 2 {
+        if counter.load(Ordering::SeqCst) >= wanted {
             break;
         }
         thread::sleep(rt, Duration::from_millis(1));
@@ -507,8 +507,9 @@ fn does<R: Threads + Wait + Sync>(
     }
 }
 
-// Waits until two threads wait, makes a change that wakes nobody, and does this. Returns how many
-// are back at the last look, or `None` if it did not do what it is for. Then it calls the end.
+// Waits until two threads wait, makes a change that wakes nobody, and does this. Once as many are
+// back as are expected, it looks for a while whether there are more. Returns how many are back, or
+// `None` if it did not do what it is for. Then it calls the end.
 fn act_late<R: Threads + Wait + Clock + Sync>(
     rt: &R,
     alloc: Global,
@@ -516,13 +517,14 @@ fn act_late<R: Threads + Wait + Clock + Sync>(
     mut seat: Seat,
     act: Act,
     waiters: &Waiters,
-    looks: u32,
+    expected: u64,
 ) -> Option<u64> {
-    counted(rt, &waiters.up, LOOKS);
+    counted(rt, &waiters.up, 2, LOOKS);
     thread::sleep(rt, Duration::from_millis(REST));
     let is_changed = hub.drain_some_alone(rt, 256, 0) == Ok(true);
     let is_done = does(rt, alloc, hub, &mut seat, act);
-    let back = counted(rt, &waiters.back, looks);
+    counted(rt, &waiters.back, expected, LOOKS);
+    let back = counted(rt, &waiters.back, 2, FEW_LOOKS);
     hub.end(rt);
     if is_changed && is_done {
         Some(back)
@@ -536,7 +538,7 @@ fn woken_once<R: Threads + Wait + Clock + Sync>(
     rt: &R,
     alloc: Global,
     act: Act,
-    looks: u32,
+    expected: u64,
 ) -> Result<Option<u64>, Fault> {
     let (hub, seat) = laid_out(rt, alloc)?;
     let seen = hub.wait_ready(rt).ok_or(Fault::UnknownLease)?;
@@ -547,27 +549,24 @@ fn woken_once<R: Threads + Wait + Clock + Sync>(
     let (shared, waiters) = (&hub, &two);
     let (woken, ()) = thread::join(
         rt,
-        move || act_late(rt, alloc, shared, seat, act, waiters, looks),
+        move || act_late(rt, alloc, shared, seat, act, waiters, expected),
         move || wait_twice(rt, shared, seen, waiters),
     );
     Ok(woken)
 }
 
-// Returns how many are woken. Where one is to sleep on, it tries until so many are, or the last
-// try.
+// Returns how many are woken. If there are too many, it tries again: one may have been late to
+// wait.
 fn woken_by<R: Threads + Wait + Clock + Sync>(
     rt: &R,
     alloc: Global,
     act: Act,
     expected: u64,
 ) -> Result<Option<u64>, Fault> {
-    if expected == 2 {
-        return woken_once(rt, alloc, act, LOOKS);
-    }
     let mut woken = None;
     for _ in 0..TRIES {
-        woken = woken_once(rt, alloc, act, FEW_LOOKS)?;
-        if woken == Some(expected) {
+        woken = woken_once(rt, alloc, act, expected)?;
+        if woken.unwrap_or(0) <= expected {
             break;
         }
     }

@@ -263,50 +263,51 @@ fn make_a_workers<R: Threads + Wait + Sync>(
 }
 
 /// Is how many changes a call was, whether the turn 0 is still out after it, the number of the next
-/// turn, how many entries the opening replaces, and how many follow.
-type Left = (u64, bool, u64, u64, usize);
+/// turn, how many entries the opening replaces, how many follow, and how many values the history has
+/// by its measure: 16 for each entry, and 8 for a row.
+type Left = (u64, bool, u64, u64, usize, u64);
 
-// Lists what each call leaves, of a hub with five entries whose turn 0 is out. Two more queries are
+// Lists what each call leaves, of a hub with six entries whose turn 0 is out. Two more queries are
 // ready, with six turns each.
 const LEFT: [(Call, Left); 38] = [
-    (Call::Stream, (0, true, 1, 0, 7)),
-    (Call::Query, (0, true, 1, 0, 7)),
-    (Call::Append, (0, true, 1, 0, 7)),
-    (Call::AppendNamed, (0, true, 1, 0, 7)),
-    (Call::Heartbeat, (1, true, 1, 0, 7)),
-    (Call::HeartbeatNamed, (1, true, 1, 0, 7)),
-    (Call::Take, (0, true, 1, 0, 7)),
-    (Call::TakeNamed, (0, true, 1, 0, 7)),
-    (Call::Drop, (1, true, 1, 0, 7)),
-    (Call::Settle, (1, true, 1, 0, 6)),
-    (Call::SettleOther, (0, true, 1, 0, 6)),
-    (Call::SettleQuietly, (1, true, 1, 0, 6)),
-    (Call::SettleAndForget, (1, true, 1, 6, 0)),
-    (Call::Forget, (1, true, 1, 6, 0)),
-    (Call::ForgetIfDue, (1, true, 1, 6, 0)),
-    (Call::ForgetUndue, (0, true, 1, 0, 6)),
-    (Call::Lease, (0, true, 2, 0, 6)),
-    (Call::LeaseWait, (0, true, 2, 0, 6)),
-    (Call::LeaseOrRest, (0, true, 2, 0, 6)),
-    (Call::Finish, (1, true, 2, 0, 6)),
-    (Call::FinishOther, (1, true, 1, 0, 6)),
-    (Call::Abandon, (0, true, 2, 0, 6)),
-    (Call::Drain, (1, true, 13, 0, 6)),
-    (Call::DrainByQuery, (1, true, 13, 0, 6)),
-    (Call::DrainSome, (1, true, 2, 0, 6)),
-    (Call::DrainSomeAlone, (1, true, 2, 0, 6)),
-    (Call::DrainSomeByQuery, (1, true, 2, 0, 6)),
-    (Call::RefusedDrain, (0, true, 1, 0, 6)),
-    (Call::RefusedDrainAll, (1, true, 1, 0, 6)),
-    (Call::RefusedDrainAllByQuery, (1, true, 1, 0, 6)),
-    (Call::RefusedDrainAlone, (0, true, 1, 0, 6)),
-    (Call::RefusedDrainByQuery, (0, true, 1, 0, 6)),
-    (Call::RefusedTurns, (0, true, 1, 0, 6)),
-    (Call::Wake, (1, true, 1, 0, 6)),
-    (Call::WakeIdle, (1, true, 13, 0, 6)),
-    (Call::Looks, (0, true, 1, 0, 6)),
-    (Call::Refused, (0, true, 1, 0, 6)),
-    (Call::RefusedByName, (0, true, 1, 0, 6)),
+    (Call::Stream, (0, true, 1, 0, 7, 120)),
+    (Call::Query, (0, true, 1, 0, 7, 120)),
+    (Call::Append, (0, true, 1, 0, 7, 128)),
+    (Call::AppendNamed, (0, true, 1, 0, 7, 128)),
+    (Call::Heartbeat, (1, true, 1, 0, 7, 120)),
+    (Call::HeartbeatNamed, (1, true, 1, 0, 7, 120)),
+    (Call::Take, (0, true, 1, 0, 7, 120)),
+    (Call::TakeNamed, (0, true, 1, 0, 7, 120)),
+    (Call::Drop, (1, true, 1, 0, 7, 120)),
+    (Call::Settle, (1, true, 1, 0, 6, 104)),
+    (Call::SettleOther, (0, true, 1, 0, 6, 104)),
+    (Call::SettleQuietly, (1, true, 1, 0, 6, 104)),
+    (Call::SettleAndForget, (1, true, 1, 6, 0, 0)),
+    (Call::Forget, (1, true, 1, 6, 0, 0)),
+    (Call::ForgetIfDue, (1, true, 1, 6, 0, 0)),
+    (Call::ForgetUndue, (0, true, 1, 0, 6, 104)),
+    (Call::Lease, (0, true, 2, 0, 6, 104)),
+    (Call::LeaseWait, (0, true, 2, 0, 6, 104)),
+    (Call::LeaseOrRest, (0, true, 2, 0, 6, 104)),
+    (Call::Finish, (1, true, 2, 0, 6, 104)),
+    (Call::FinishOther, (1, true, 1, 0, 6, 104)),
+    (Call::Abandon, (0, true, 2, 0, 6, 104)),
+    (Call::Drain, (1, true, 13, 0, 6, 104)),
+    (Call::DrainByQuery, (1, true, 13, 0, 6, 104)),
+    (Call::DrainSome, (1, true, 2, 0, 6, 104)),
+    (Call::DrainSomeAlone, (1, true, 2, 0, 6, 104)),
+    (Call::DrainSomeByQuery, (1, true, 2, 0, 6, 104)),
+    (Call::RefusedDrain, (0, true, 1, 0, 6, 104)),
+    (Call::RefusedDrainAll, (1, true, 1, 0, 6, 104)),
+    (Call::RefusedDrainAllByQuery, (1, true, 1, 0, 6, 104)),
+    (Call::RefusedDrainAlone, (0, true, 1, 0, 6, 104)),
+    (Call::RefusedDrainByQuery, (0, true, 1, 0, 6, 104)),
+    (Call::RefusedTurns, (0, true, 1, 0, 6, 104)),
+    (Call::Wake, (1, true, 1, 0, 6, 104)),
+    (Call::WakeIdle, (1, true, 13, 0, 6, 104)),
+    (Call::Looks, (0, true, 1, 0, 6, 104)),
+    (Call::Refused, (0, true, 1, 0, 6, 104)),
+    (Call::RefusedByName, (0, true, 1, 0, 6, 104)),
 ];
 
 // Makes a hub with three queries that have a row and a tick each, and leases the turn 0.
@@ -332,6 +333,17 @@ fn next_turn<R: Wait>(rt: &R, hub: &Hub) -> Result<u64, Fault> {
     }
 }
 
+// Returns how many values the history has by its measure, if there are fewer than 200.
+fn measured<R: Wait>(rt: &R, hub: &Hub) -> u64 {
+    let mut values = 0;
+    for limit in 1..200 {
+        if hub.is_due(rt, limit) {
+            values = limit;
+        }
+    }
+    values
+}
+
 // Makes the call, gives the turn 0 up, and closes instants, so that an operator is ready. Returns
 // what the call left, without that heartbeat, or `None` if the call did not do what it is for.
 fn left_by<R: Threads + Wait + Sync>(
@@ -346,6 +358,7 @@ fn left_by<R: Threads + Wait + Sync>(
     hub.heartbeat(rt, &mut seat, 0, 9)?;
     let after = hub.wait_ready(rt).ok_or(Fault::UnknownLease)?;
     let next = next_turn(rt, &hub)?;
+    let values = measured(rt, &hub);
     match closed_with(alloc, hub, seat)? {
         Some(closed) if is_made => {
             Ok(Some((
@@ -354,6 +367,7 @@ fn left_by<R: Threads + Wait + Sync>(
                 next,
                 closed.first,
                 closed.entries.len().saturating_sub(1),
+                values.saturating_sub(16),
             )))
         }
         _ => Ok(None),

@@ -738,6 +738,11 @@ class Programs(unittest.TestCase):
         self.assertGreater(twice, told_nothing + 16_384)
         self.assertGreater(all_of_it, told_nothing + 16_384)
 
+    def test_a_pool_that_never_forgets_keeps_all(self) -> None:
+        some = most_memory_of_a_pool(MANY_ROWS, 8_388_608)
+        all_of_it = most_memory_of_a_pool(MANY_ROWS, 0)
+        self.assertGreater(all_of_it, some + 16_384)
+
     def test_forgetting_wants_a_pool(self) -> None:
         ran = said("cqlrun", "--forget=1", lines=script(1))
         self.assertEqual((ran.returncode, ran.stdout), (2, ""))

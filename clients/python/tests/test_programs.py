@@ -543,14 +543,13 @@ class Programs(unittest.TestCase):
 
     def test_a_failed_accept_is_told_after_clients_have_left(self) -> None:
         with listening(clients=2) as (server, port):
-            for _ in range(4):
-                with connected(port) as client:
-                    self.assertTrue(answers(client))
-                    end(client)
-            # Three files of its own, and the listener: no accept that begins from now on is well.
-            resource.prlimit(server.pid, resource.RLIMIT_NOFILE, (4, 4))
             with connected(port) as client:
                 self.assertTrue(answers(client))
+                self.assertEqual(answered(port, 4), 4)
+                # Three files of its own, and the listener: no accept that begins now is well. One
+                # that waits already has its file.
+                resource.prlimit(server.pid, resource.RLIMIT_NOFILE, (4, 4))
+                connected(port).close()
                 self.assertEqual(first_error(server), "cqld: accept failed\n")
                 self.assertTrue(answers(client))
             self.assertEqual(server.wait(PATIENCE), 1)
@@ -611,9 +610,8 @@ class Programs(unittest.TestCase):
 
     def test_a_silent_client_that_is_closed_makes_room_for_one(self) -> None:
         with listening("--idle=1", clients=2) as (_, port):
-            for _ in range(2):
+            for _ in range(3):
                 with connected(port) as first, connected(port) as second:
-                    self.assertTrue(answers(first) and answers(second))
                     self.assertEqual(rest_of(first) + rest_of(second), b"")
 
     def test_a_server_serves_more_than_1024_connections(self) -> None:

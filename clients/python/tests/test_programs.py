@@ -401,33 +401,51 @@ class Programs(unittest.TestCase):
             ran = said(program, "--version")
             self.assertEqual((ran.returncode, ran.stdout), (0, f"{program} 0.9.0\n"))
 
-    def test_help_says_what_each_option_takes(self) -> None:
-        for program, options in HELP.items():
-            ran = said(program, "--help")
-            self.assertEqual((ran.returncode, ran.stderr), (0, ""))
-            parts = " ".join(ran.stdout.split()).split(" --")
-            for option, takes in options.items():
-                self.assertTrue(any(it.startswith(option) and takes in it for it in parts), option)
+    def test_help_of_cqlrun_says_what_each_option_takes(self) -> None:
+        self.says_what_options_take("cqlrun")
 
-    def test_a_failed_write_of_help_is_told(self) -> None:
-        for program in ("cqlrun", "cqld"):
-            for word in ("--help", "--version"):
-                with open("/dev/full", "w") as full:
-                    ran = subprocess.run(
-                        [find_program(program), word],
-                        stdin=subprocess.DEVNULL,
-                        stdout=full,
-                        stderr=subprocess.PIPE,
-                        text=True,
-                        timeout=PATIENCE,
-                    )
-                self.assertEqual((ran.returncode, ran.stderr), (1, f"{program}: write failed\n"))
+    def test_help_of_cqld_says_what_each_option_takes(self) -> None:
+        self.says_what_options_take("cqld")
 
-    def test_a_word_that_is_no_text_is_a_wrong_command_line(self) -> None:
-        for program in ("cqlrun", "cqld"):
-            ran = said(program, os.fsdecode(b"\xff"))
-            self.assertEqual((ran.returncode, ran.stdout), (2, ""))
-            self.assertEqual(ran.stderr, f"{program}: a word is not UTF-8\n")
+    def says_what_options_take(self, program: str) -> None:
+        """Asserts that a program's help says what each of its options takes."""
+        ran = said(program, "--help")
+        self.assertEqual((ran.returncode, ran.stderr), (0, ""))
+        parts = " ".join(ran.stdout.split()).split(" --")
+        for option, takes in HELP[program].items():
+            self.assertTrue(any(it.startswith(option) and takes in it for it in parts), option)
+
+    def test_a_failed_write_of_help_is_told_by_cqlrun(self) -> None:
+        self.tells_a_failed_write("cqlrun")
+
+    def test_a_failed_write_of_help_is_told_by_cqld(self) -> None:
+        self.tells_a_failed_write("cqld")
+
+    def tells_a_failed_write(self, program: str) -> None:
+        """Asserts that a program says that its help could not be written."""
+        for word in ("--help", "--version"):
+            with open("/dev/full", "w") as full:
+                ran = subprocess.run(
+                    [find_program(program), word],
+                    stdin=subprocess.DEVNULL,
+                    stdout=full,
+                    stderr=subprocess.PIPE,
+                    text=True,
+                    timeout=PATIENCE,
+                )
+            self.assertEqual((ran.returncode, ran.stderr), (1, f"{program}: write failed\n"))
+
+    def test_a_word_that_is_no_text_is_refused_by_cqlrun(self) -> None:
+        self.refuses_a_word("cqlrun")
+
+    def test_a_word_that_is_no_text_is_refused_by_cqld(self) -> None:
+        self.refuses_a_word("cqld")
+
+    def refuses_a_word(self, program: str) -> None:
+        """Asserts that a program refuses a word that is not UTF-8."""
+        ran = said(program, os.fsdecode(b"\xff"))
+        self.assertEqual((ran.returncode, ran.stdout), (2, ""))
+        self.assertEqual(ran.stderr, f"{program}: a word is not UTF-8\n")
 
     def test_words_that_ask_for_no_server_are_named(self) -> None:
         right = {"--port": "0", "--workers": "1", "--clients": "1"}
@@ -445,25 +463,31 @@ class Programs(unittest.TestCase):
                 self.assertEqual((ran.returncode, ran.stdout), (2, ""))
                 self.assertIn(option, ran.stderr)
 
-    def test_a_program_that_lacks_memory_at_the_start_says_so(self) -> None:
+    def test_lack_of_memory_at_the_start_is_told_by_cqlrun(self) -> None:
+        self.tells_lack_of_memory("cqlrun")
+
+    def test_lack_of_memory_at_the_start_is_told_by_cqld(self) -> None:
         words = ("--port=0", "--workers=1", "--clients=1", "--serve=0")
-        for program, words in ("cqlrun", ()), ("cqld", words):
-            with tempfile.TemporaryDirectory() as folder:
-                library = refusing(folder)
-                lacks = 0
-                for growth in itertools.count(1):
-                    ran = said(program, *words, variables=refusals(library, growth))
-                    errors = ran.stderr.replace(REFUSED, "")
-                    if ran.returncode == 0:
-                        self.assertEqual(errors, "")
-                        self.assertEqual(bool(ran.stdout), program == "cqld")
-                    else:
-                        lacks += 1
-                        self.assertEqual(ran.returncode, 3, f"growth {growth}")
-                        self.assertRegex(errors, f"^{program}: (out of memory|thread failed)\n$")
-                    if REFUSED not in ran.stderr:
-                        break
-                self.assertGreater(lacks, 0)
+        self.tells_lack_of_memory("cqld", *words)
+
+    def tells_lack_of_memory(self, program: str, *words: str) -> None:
+        """Asserts that a program says so if memory runs out at its start, whenever it does."""
+        with tempfile.TemporaryDirectory() as folder:
+            library = refusing(folder)
+            lacks = 0
+            for growth in itertools.count(1):
+                ran = said(program, *words, variables=refusals(library, growth))
+                errors = ran.stderr.replace(REFUSED, "")
+                if ran.returncode == 0:
+                    self.assertEqual(errors, "")
+                    self.assertEqual(bool(ran.stdout), program == "cqld")
+                else:
+                    lacks += 1
+                    self.assertEqual(ran.returncode, 3, f"growth {growth}")
+                    self.assertRegex(errors, f"^{program}: (out of memory|thread failed)\n$")
+                if REFUSED not in ran.stderr:
+                    break
+            self.assertGreater(lacks, 0)
 
     def test_a_server_listens_at_the_port_that_it_is_told(self) -> None:
         for _ in range(20):

@@ -249,18 +249,15 @@ fn heard_of_a_helper<R: Threads + Wait + Clock + Sync>(
     )
 }
 
-// With one row each there are 1,200 turns, more than a helper runs in place at once. With 256 there
-// are few.
+// There are 1,200 turns of a row or a tick, and 1,088 of them run in place. Then 64 are leased if one
+// row fills a turn, and otherwise one.
 #[test]
 fn a_helper_leases_turns_after_many_in_place(rt: HostRuntime) -> Result<(), Fail> {
-    for (rows, leases) in [(1, true), (256, false)] {
+    for (rows, leased) in [(1, 64), (256, 1)] {
         let (hub, _seat) = long_ready(&rt, rt.alloc())?;
         let (waiting, out, back) = heard_of_a_helper(&rt, rt.alloc(), &hub, rows);
         assert_eq!(rt; waiting, Some(200));
-        assert!(rt;
-            (out > 0) == leases && out == back,
-            "at {rows} rows, {out} went out and {back} came back"
-        );
+        assert_eq!(rt; (out, back), (leased, leased), "at {rows} rows");
     }
     Ok(())
 }

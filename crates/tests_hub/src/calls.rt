@@ -263,8 +263,8 @@ fn make_a_workers<R: Threads + Wait + Sync>(
 }
 
 /// Is how many changes a call was, whether the turn 0 is still out after it, the number of the next
-/// turn, how many entries the opening replaces, how many follow, and how many values the history has
-/// by its measure: 16 for each entry, and 8 for a row.
+/// turn, how many entries the opening replaces, how many follow, and how many values the history
+/// has by its measure: 16 for each entry, and 8 for a row.
 type Left = (u64, bool, u64, u64, usize, u64);
 
 // Lists what each call leaves, of a hub with six entries whose turn 0 is out. Two more queries are

@@ -249,8 +249,8 @@ fn heard_of_a_helper<R: Threads + Wait + Clock + Sync>(
     )
 }
 
-// There are 1,200 turns of a row or a tick, and 1,088 of them run in place. Then 64 are leased if one
-// row fills a turn, and otherwise one.
+// There are 1,200 turns of a row or a tick, and 1,088 of them run in place. Then 64 are leased if
+// one row fills a turn, and otherwise one.
 #[test]
 fn a_helper_leases_turns_after_many_in_place(rt: HostRuntime) -> Result<(), Fail> {
     for (rows, leased) in [(1, 64), (256, 1)] {

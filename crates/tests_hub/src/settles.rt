@@ -12,9 +12,9 @@ use std::test::Fail;
 const OVER: u64 = 1_099_511_627_777;
 
 // Lists the steps of a seat that declared the stream: `a` appends a row, `s` settles, and at `f`
-// the hub forgets. At `g` the seat settles, and the hub forgets after it. Then come the entries that
-// the opening replaces, those that follow, the calls that were settled, and those that were compared
-// by their numbers alone.
+// the hub forgets. At `g` the seat settles, and the hub forgets after it. Then come the entries
+// that the opening replaces, those that follow, the calls that were settled, and those that were
+// compared by their numbers alone.
 const ROWS: [(&str, (u64, usize, u64, u64)); 11] = [
     ("aa", (0, 3, 0, 0)),
     ("af", (2, 0, 0, 2)),

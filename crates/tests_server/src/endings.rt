@@ -237,9 +237,9 @@ fn looks_show_what_another_client_did(rt: HostRuntime) -> Result<(), Fail> {
     Ok(())
 }
 
-// Registers a query, appends, and then answers lines by a seat that settles, over a hub that forgets after so many
-// values. Returns how many entries the opening replaces, how many follow, how many calls were
-// settled, and how many were compared only by their numbers.
+// Registers a query, appends, and then answers lines by a seat that settles, over a hub that
+// forgets after so many values. Returns how many entries the opening replaces, how many follow, how
+// many calls were settled, and how many were compared only by their numbers.
 fn counts_after<R: Threads + Wait + Sync>(
     rt: &R,
     alloc: Global,

@@ -469,6 +469,8 @@ enum Act {
     Calls(Call),
     /// Answers lines by a seat that settles.
     Settles(&'static str),
+    /// Answers a heartbeat and so many takes by such a seat.
+    SettlesTakes(u32),
     /// Answers lines by a seat of another hub, which differs.
     Differs(&'static str),
     /// Answers lines by one that does not settle.
@@ -493,6 +495,24 @@ fn serve_other<R: Threads + Wait + Sync>(
     Ok(served.is_ok() && seat.receipts().len() == 1)
 }
 
+// Answers a heartbeat and so many takes. Returns whether all were read.
+fn serve_takes<R: Threads + Wait + Sync>(
+    rt: &R,
+    alloc: Global,
+    hub: &Hub,
+    seat: &mut Seat,
+    count: u32,
+) -> Result<bool, Fault> {
+    let mut text = String::from_str(alloc, HEARTBEAT)?;
+    for _ in 0..count {
+        text.push_str(TAKE)?;
+    }
+    let mut source = MemorySource::new(text.as_str().as_bytes());
+    let mut sink = MemorySink::new(alloc);
+    let connection = Connection::new(rt, alloc, hub, 256, 0);
+    Ok(connection.serve(&mut source, &mut sink, seat).is_ok())
+}
+
 // Does it. Returns whether it did what it is for.
 fn does<R: Threads + Wait + Sync>(
     rt: &R,
@@ -509,6 +529,7 @@ fn does<R: Threads + Wait + Sync>(
             let connection = Connection::new(rt, alloc, hub, 256, 0);
             connection.serve(&mut source, &mut sink, seat).is_ok()
         }
+        Act::SettlesTakes(count) => matches!(serve_takes(rt, alloc, hub, seat, count), Ok(true)),
         Act::Differs(lines) => matches!(serve_other(rt, alloc, hub, lines), Ok(true)),
         Act::Serves(lines) => {
             let mut source = MemorySource::new(lines.as_bytes());
@@ -613,10 +634,16 @@ const STATUS_TWICE: &str = "{\"op\":\"status\"}\n{\"op\":\"status\"}\n";
 
 const FORGET: &str = "{\"op\":\"forget\"}\n";
 
+const HEARTBEAT_AND_DRAIN: &str =
+    "{\"op\":\"heartbeat\",\"stream\":\"S\",\"at\":1}\n{\"op\":\"drain\"}\n";
+
 // Lists how many of the two threads lines wake. The settle of a seat wakes one if its client may
-// have left work. A look wakes all by a seat without receipts, or one that differed before.
-const ASKED: [(Act, u64); 16] = [
+// have left work since the settle before. It comes after a burst, or 16 receipts. A look wakes all
+// by a seat without receipts, or one that differed before.
+const ASKED: [(Act, u64); 18] = [
     (Act::Settles(HEARTBEAT), 1),
+    (Act::Settles(HEARTBEAT_AND_DRAIN), 0),
+    (Act::SettlesTakes(20), 1),
     (Act::Serves(HEARTBEAT), 2),
     (Act::Runs(HEARTBEAT), 2),
     (Act::Settles(REGISTRATION), 1),

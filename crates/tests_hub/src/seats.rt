@@ -1,7 +1,8 @@
 //! Tests seats, their receipts, and the history of a hub that is closed.
 
-use crate::fixture::{declare, opened_for, register, rows};
-use hub::{Closed, CommandKind, Entry, Hub, ReplyKind, Seat};
+use crate::agreement::next_done;
+use crate::fixture::{declare, opened_for, ready, register, rows};
+use hub::{Closed, CommandKind, Entry, Hub, LeaseWait, ReplyKind, Seat};
 use reference::Fault;
 use std::alloc::Global;
 use std::sync::Wait;
@@ -100,6 +101,24 @@ fn are_three_accepted<R: Wait>(rt: &R, alloc: Global) -> Result<bool, Fault> {
 #[test]
 fn each_accepted_call_is_an_entry_and_no_refused_one_is(rt: HostRuntime) -> Result<(), Fail> {
     assert!(rt; are_three_accepted(&rt, rt.alloc())?);
+    Ok(())
+}
+
+// Closes without a seat while a turn is out, which is refused. Returns whether the turn may come
+// back after that, and another one goes out.
+fn goes_on_after_a_refused_close<R: Wait>(rt: &R, alloc: Global) -> Result<bool, Fault> {
+    let (hub, _seat) = ready(rt, alloc, 6)?;
+    let done = next_done(rt, alloc, &hub)?.ok_or(Fault::UnknownLease)?;
+    let Err((hub, _back)) = hub.close(Vec::new(alloc)) else {
+        return Ok(false);
+    };
+    hub.finish(rt, done)?;
+    Ok(hub.has_ready(rt) && matches!(hub.lease_wait(rt, 256)?, LeaseWait::Turn(_)))
+}
+
+#[test]
+fn a_hub_goes_on_after_a_refused_close(rt: HostRuntime) -> Result<(), Fail> {
+    assert_eq!(rt; goes_on_after_a_refused_close(&rt, rt.alloc()), Ok(true));
     Ok(())
 }
 

@@ -9,10 +9,10 @@ use Rattle.tests_hub.proofs.calls.woken_once.Goals as goal
 
 -- what is done may go to another thread, and those that wait may be shared
 call_send : IsSend call.the_row
-call_send = search sendable depth 12
+call_send = search sendable depth 100
 
 act_send : IsSend act.the_row
-act_send = search (sendable, call_send) depth 12
+act_send = search (sendable, call_send) depth 40
 
 waiters_sync : IsSync waiters.the_row
 waiters_sync = search (sendable, crosses) depth 12

@@ -582,10 +582,10 @@ fn woken_once<R: Threads + Wait + Clock + Sync>(
         back: AtomicU64::new(0),
     };
     let (shared, waiters) = (&hub, &two);
-    let (woken, ()) = thread::join(
+    let ((), woken) = thread::join(
         rt,
-        move || act_late(rt, alloc, shared, seat, act, waiters, expected),
         move || wait_twice(rt, shared, seen, waiters),
+        move || act_late(rt, alloc, shared, seat, act, waiters, expected),
     );
     Ok(woken)
 }

@@ -11,7 +11,9 @@ use Rattle.std.proofs.lemmas.Bool.Decides.{Decides-eqb}
 use Rattle.values.specs.declared.TheConstants.{MAX_COLUMNS}
 use Rattle.values.specs.Row.{Row, value_at}
 use Rattle.column.specs.Bits.{at_places, chosen, true_places}
-use Rattle.column.specs.Rows.{IsBatch, IsLaidOut, IsTable, beside, column_of, of_side, row_at, signed, signed_rows, width}
+use Rattle.column.specs.Rows.{IsBatch, IsLaidOut, IsTable, beside, column_of, row_at, signed}
+use Rattle.column.specs.Rows.{signed_rows, width}
+use Rattle.column.specs.Sides.{of_side}
 use Rattle.column.specs.declared.batch.Side.{Side}
 use Rattle.column.specs.declared.batch.Side.TheVariants.{Left, Right}
 use Rattle.column.specs.declared.batch.SignedRow.{SignedRow}

@@ -2,7 +2,8 @@
 use Rattle.std.proofs.Common.{ℕ, ℤ, pos, negsuc, List, [], ◌∷◌, ◌++◌, ◌≡◌, ◌<◌, ◌-◌, cond, length, take, drop, slice_range, refl, sym, ◌∙◌, ap, arith, Bool, true, false, Some, None, Option, zero, suc, neg_ℤ, ◌≤ℤ◌, FitsSigned, w64, to_z, of_z, IfSome, unwrap_or, is_some, map, All, subst}
 use Rattle.std.proofs.Math.ListN.{get_or}
 use Rattle.std.proofs.lemmas.Int.{ints, to_z-of_z}
-use Rattle.values.specs.Value.{IsAnswerNumber, IsStreamNumber, answer_max}
+use Rattle.values.specs.Value.{answer_max}
+use Rattle.values.specs.Ranges.{IsAnswerNumber, IsStreamNumber}
 use Rattle.column.specs.Bits.{at_places}
 use Rattle.column.specs.Columns.{IsColumn, IsCell, IsStreamValue, numbers_of, values_of}
 

@@ -5,7 +5,7 @@ use Rattle.std.proofs.lemmas.Int.{to_z-of_z}
 use Rattle.std.proofs.lemmas.List.{map-append, ext_get_or}
 use Rattle.std.proofs.lemmas.List.FromFn.{length-map-range_with_len, get_or-map-range_with_len, map-range_with_len_more}
 use Rattle.std.proofs.lemmas.List.Elements.{All-append, All-push, All-nil, All-head, All-tail}
-use Rattle.values.specs.Value.{IsAnswerNumber, IsAnswerValue}
+use Rattle.values.specs.Ranges.{IsAnswerNumber, IsAnswerValue}
 use Rattle.column.specs.Bits.{IsClear, at_places, bits, place, places_by}
 use Rattle.column.specs.Columns.{IsCell, numbers_of}
 use Rattle.column.proofs.BitLemmas.{bits_grown}

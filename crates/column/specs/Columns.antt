@@ -1,7 +1,7 @@
 -- Columns: numbers beside the truths that say which of them are no nulls.
 use Rattle.std.specs.Prelude.{ℤ, pos, Bool, false, Option, Some, None, List, [], ◌∷◌, ◌≡◌, cond}
 use Rattle.std.specs.Prelude.{map, unwrap_or}
-use Rattle.values.specs.Value.{IsAnswerNumber, IsStreamNumber}
+use Rattle.values.specs.Ranges.{IsAnswerNumber, IsStreamNumber}
 
 -- the values: the number where it is valid, else null
 abbrev pub values_of : List ℤ → List Bool → List (Option ℤ)

@@ -1,12 +1,12 @@
 -- Batches: signed rows laid out in columns.
-use Rattle.std.specs.Prelude.{ℕ, ℤ, Bool, false, not, Option, None, List, [], ◌∷◌, ◌++◌, ◌≡◌, ◌≤◌, ◌<◌}
-use Rattle.std.specs.Prelude.{map, length, get_or, take, drop, All}
+use Rattle.std.specs.Prelude.{ℕ, ℤ, Bool, false, not, Option, None, List, [], ◌∷◌, ◌++◌, ◌≡◌, ◌≤◌}
+use Rattle.std.specs.Prelude.{◌<◌, map, length, get_or, take, drop, All}
 use Rattle.std.specs.List.{range_with_len}
 use Rattle.values.specs.declared.TheConstants.{MAX_COLUMNS}
 use Rattle.values.specs.Row.{Row, value_at}
 use Rattle.column.specs.declared.batch.SignedRow.{SignedRow}
 use Rattle.column.specs.declared.batch.Side.{Side}
-use Rattle.column.specs.declared.batch.Side.TheVariants.{Left, Right}
+use Rattle.column.specs.Sides.{of_side}
 
 -- a signed row: true where it enters, and its values
 abbrev pub signed : SignedRow → Bool × Row
@@ -57,11 +57,6 @@ pub record IsLaidOut (columns : List (List (Option ℤ))) (leaving : List Bool) 
   pub few : length leaving ≤ 1024
   pub narrow : length columns ≤ MAX_COLUMNS
   pub same : All (λ c. length c ≡ length leaving) columns
-
--- the one of two that belongs to a side
-abbrev pub of_side : {X : Type 0} → Side → X → X → X
-of_side Left x y = x
-of_side Right x y = y
 
 -- each row of the left side beside the row at its place of the right side
 abbrev pub beside : Side → List (Bool × Row) → List (Bool × Row) → List (Bool × Row)

@@ -6,7 +6,7 @@ ghost use Rattle.std.specs.Prelude.{length, slice_index_or, slice_range, map, ta
 ghost use Rattle.std.specs.Prelude.{vec_len, vec_capacity, ◌*◌};
 ghost use Rattle.column.specs.Bits.{IsClear, at_places, bits, chosen, places_by};
 ghost use Rattle.column.specs.Columns.{IsColumn, IsStreamValue, numbers_of, values_of};
-ghost use Rattle.values.specs.Value.{IsAnswerNumber, IsAnswerValue, IsStreamNumber};
+ghost use Rattle.values.specs.Ranges.{IsAnswerNumber, IsAnswerValue, IsStreamNumber};
 
 use super::MAX_ROWS;
 use super::mask::{Mask, with_bit};

@@ -11,7 +11,8 @@ use Rattle.clap.specs.declared.builder.command.Command.TheViews.{out-Command}
 use Rattle.clap.specs.declared.parser.matches.ArgMatches.{ArgMatches}
 use Rattle.clap.proofs.WalkLemmas.{one_text-rows}
 use Rattle.command_lines.specs.CommandLine.{between, number_in, number_or, refusals, run_text, AsksBoth, ForgetsAlone, IsPlain}
-use Rattle.command_lines.specs.Faults.{ChoosesBoth, ChoosesToForget, RefusesChoice, RefusesRun}
+use Rattle.command_lines.specs.Faults.{ChoosesBoth, ChoosesToForget, RefusesChoice}
+use Rattle.command_lines.specs.Refusals.{RefusesRun}
 use Rattle.command_lines.specs.declared.run.RunOptions.{RunOptions}
 use Rattle.command_lines.specs.declared.fault.WordsFault.{WordsFault}
 use Rattle.command_lines.specs.declared.fault.WordsFault.TheVariants as words_fault

@@ -1,11 +1,11 @@
+-- TO BELIEVE: the theorem rests on these definitions, and no proof can check them.
 -- The command lines, as clap's own definition of a parse sees them.
-use Rattle.std.specs.Prelude.{◌≡◌, ◌≢◌, ◌^◌, ℕ, pos, List, Option, Some, None, codes, false, true}
+use Rattle.std.specs.Prelude.{◌≡◌, ◌≢◌, ◌^◌, ℕ, pos, List, Option, Some, None, codes, true}
 use Rattle.std.specs.Str.Parse.{digits_value, without_leading_plus}
 use Rattle.clap.specs.Simple.{on_top}
 use Rattle.clap.specs.Words.{App, Rule, Text, Kinds, new_app, new_rule, with_rule, fault_of}
-use Rattle.clap.specs.Words.{matches_of, one_of, rule_of, IsPlainArg}
+use Rattle.clap.specs.Words.{matches_of, one_of}
 use Rattle.clap.specs.declared.builder.action.ArgAction.TheVariants.{SetTrue}
-use Rattle.clap.specs.declared.builder.arg.Arg.{Arg}
 use Rattle.clap.specs.declared.builder.value_parser.ValueParser.{ValueParser}
 use Rattle.clap.specs.declared.builder.value_parser.ValueParser.TheVariants.{Signed}
 
@@ -20,14 +20,6 @@ option name parser = record (new_rule name) {
   value_names = 1;
   parser = Some parser;
 }
-
--- an argument of this rule, name and parser, which excludes nothing
-pub record IsNumberArg (rule : Rule) (name : List ℕ) (parser : ValueParser) (a : Arg) : Type 0 where
-  pub ruled : rule_of a ≡ rule
-  pub named : a.id.now ≡ name
-  pub parsed : a.value_parser ≡ Some parser
-  pub plain : IsPlainArg a
-  pub local : a.global ≡ false
 
 -- a number from the one to the other, both included
 abbrev pub between : ℕ → ℕ → ValueParser

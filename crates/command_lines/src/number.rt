@@ -1,6 +1,7 @@
 //! Makes options that take a number.
 ghost use Rattle.std.specs.Prelude.{codes};
-ghost use Rattle.command_lines.specs.CommandLine.{IsNumberArg, option, values, wanted};
+ghost use Rattle.command_lines.specs.CommandLine.{option, values, wanted};
+ghost use Rattle.command_lines.specs.Numbers.{IsNumberArg};
 
 use clap::builder::ValueParser;
 use clap::{Arg, value_parser};

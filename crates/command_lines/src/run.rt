@@ -4,7 +4,7 @@ ghost use Rattle.std.specs.Prelude.{MatchResult, map, option_map};
 ghost use Rattle.command_lines.specs.CommandLine.{AsksBoth, ForgetsAlone, IsPlain, number_in};
 ghost use Rattle.command_lines.specs.CommandLine.{number_or, refusals, run_text};
 ghost use Rattle.command_lines.specs.Faults.{ChoosesBoth, ChoosesToForget, RefusesChoice};
-ghost use Rattle.command_lines.specs.Faults.{RefusesRun};
+ghost use Rattle.command_lines.specs.Refusals.{RefusesRun};
 
 use crate::fault::WordsFault;
 use crate::number::{forget, number};

@@ -1,7 +1,8 @@
 //! Reads the command line of `cqld`.
 ghost use Rattle.std.specs.Prelude.{◌≡◌, ◌≤◌, ◌^◌, IfOk, IfSome, codes, map, option_map};
 ghost use Rattle.clap.specs.Words.{FailsBy};
-ghost use Rattle.command_lines.specs.CommandLine.{IsNumberArg, between, number_in, number_or};
+ghost use Rattle.command_lines.specs.CommandLine.{between, number_in, number_or};
+ghost use Rattle.command_lines.specs.Numbers.{IsNumberArg};
 ghost use Rattle.command_lines.specs.CommandLine.{option, serve_refusals, serve_text, wanted};
 
 use crate::number::{forget, number, wanted_number};

@@ -3,7 +3,8 @@ use Rattle.std.proofs.Common.{◌≡◌, ℕ, zero, suc, ◌+◌, ◌<◌, ◌�
 use Rattle.std.proofs.lemmas.List.{at_drop_more, at_drop_all}
 use Rattle.std.proofs.lemmas.Bool.{and_parts, ltb-true, ltb-false, false≢true, cases_Bool}
 use Rattle.std.specs.Str.{IsAscii, IsNotAscii}
-use Rattle.cql_reader.specs.Lexis.{all_ascii, all_word, is_word}
+use Rattle.cql_reader.specs.Lexis.{all_word, is_word}
+use Rattle.cql_reader.specs.Scanning.{all_ascii}
 
 pub each_ascii : (bs : List ℕ) → all_ascii bs ≡ true → IsAscii bs
 unfolding all_ascii

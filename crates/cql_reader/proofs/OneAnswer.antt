@@ -4,13 +4,15 @@ use Rattle.std.proofs.lemmas.List.{reverse-append}
 use Rattle.std.proofs.lemmas.Bool.{or_cases, eqb-true, false≢true, cases_order, cases_Bool, cases_lt}
 use Rattle.cql_reader.specs.declared.tokens.TokenKind.{TokenKind}
 use Rattle.cql_reader.specs.declared.symbols.Symbol.{Symbol}
-use Rattle.cql_reader.specs.Lexis.{is_blank, token_at, all_ascii}
-use Rattle.cql_reader.specs.Tokens.{Token, end_of, Blank, Stands, Tokens, NoToken, scan_from}
+use Rattle.cql_reader.specs.Lexis.{is_blank, token_at}
+use Rattle.cql_reader.specs.Tokens.{Token, end_of, Blank, Stands, Tokens, NoToken}
+use Rattle.cql_reader.specs.Scanning.{all_ascii, scan_from}
 use Rattle.cql_reader.specs.Query.{Query}
 use Rattle.cql_reader.specs.Fault.{Fault, TextTooLong, NotAscii, BadToken, Unexpected, NumberRange, TooDeep}
 use Rattle.cql_reader.specs.Grammar.{Draft, Level, Shape, Ranged, Strict, allowed, Derives, nothing, read, emit, rule, IsQuery, Begins, Fails, finished}
 use Rattle.cql_reader.specs.Prediction.{parsed}
-use Rattle.cql_reader.specs.Reading.{Fine, Names, OddByte, OddToken, TooShort, Outside, IsAnswer, judged, reading}
+use Rattle.cql_reader.specs.Reading.{Fine, Names, OddByte, OddToken, TooShort, Outside, IsAnswer}
+use Rattle.cql_reader.specs.Judging.{judged, reading}
 use Rattle.cql_reader.proofs.Ascii.{each_ascii, some_not_ascii}
 use Rattle.cql_reader.proofs.Readings.{reading_long, reading_not_ascii, reading_fine}
 use Rattle.cql_reader.proofs.Theory.{allowed_strict}

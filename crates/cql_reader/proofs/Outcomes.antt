@@ -8,7 +8,8 @@ use Rattle.cql_reader.specs.declared.symbols.Role.{Role}
 use Rattle.cql_reader.specs.declared.symbols.Symbol.{Symbol}
 use Rattle.cql_reader.specs.declared.symbols.Symbol.TheVariants.{Read, Rule, Emit}
 use Rattle.cql_reader.specs.Lexis.{number_of}
-use Rattle.cql_reader.specs.Tokens.{Token, end_of, Blank, Stands, Tokens, Scan, End, Bad, Then, scan_from}
+use Rattle.cql_reader.specs.Tokens.{Token, end_of, Blank, Stands, Tokens}
+use Rattle.cql_reader.specs.Scanning.{Scan, End, Bad, Then, scan_from}
 use Rattle.cql_reader.specs.Fault.{Fault, TextTooLong, NotAscii, BadToken, Unexpected, NumberRange, TooDeep}
 use Rattle.cql_reader.specs.Grammar.{Draft, Level, Shape, Ranged, Strict, allowed, kind_of, in_range, may_open, took, did, whole, start, IsQuery, Begins}
 use Rattle.cql_reader.specs.Prediction.{same_kind, chosen, ahead, stopped, closed, taken, along, run, weight, weights, count, parsed}

@@ -1,7 +1,7 @@
 -- A number that is cut off outside each range is in the same ranges.
 use Rattle.std.proofs.Common.{◌≡◌, ℕ, zero, suc, ◌<◌, ◌≤◌, Bool, true, false, not, ◌&&◌, ℤ, pos, negsuc, neg_ℤ, int_lt, nat_lt, nat_abs, min, refl, sym, ap, ◌∙◌, arith, inl, inr}
 use Rattle.std.proofs.lemmas.Bool.{cases_lt, ltb-true, lt-ltb, le-ltb, and_parts, false≢true}
-use Rattle.cql_reader.specs.Lexis.{capped}
+use Rattle.cql_reader.specs.Scanning.{capped}
 use Rattle.cql_reader.specs.Grammar.{in_span, in_step, in_rows, in_stream}
 
 pub capped_negative : (n : ℕ) → neg_ℤ (pos (min n 2199023255552)) ≡ capped (neg_ℤ (pos n))
@@ -43,6 +43,15 @@ pub step_capped : (z : ℤ) → in_step (capped z) ≡ in_step z
 unfolding capped
 step_capped (pos n) = above_cut (pos 1) 1099511627777 n (omega arith)
 step_capped (negsuc n) = refl
+
+not_below_one : (n : ℕ) → not (nat_lt n 1) ≡ true → 0 < n
+not_below_one zero h = absurd (false≢true h)
+not_below_one (suc n) h = omega arith
+
+-- a step is at least 1, cut off or not
+pub step_some : (z : ℤ) → in_step z ≡ true → 0 < min (nat_abs z) 2199023255552
+step_some (pos n) h = let l = not_below_one n (and_parts (not (nat_lt n 1)) (nat_lt n 1099511627777) h).0 in omega (arith, l)
+step_some (negsuc n) h = absurd (false≢true h)
 
 pub rows_capped : (z : ℤ) → in_rows (capped z) ≡ in_rows z
 unfolding capped

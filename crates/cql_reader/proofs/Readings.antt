@@ -7,13 +7,12 @@ use Rattle.cql_reader.specs.declared.symbols.Symbol.TheVariants.{Read}
 use Rattle.cql_reader.specs.declared.tokens.Token.{Token as CodedToken}
 use Rattle.cql_reader.specs.declared.ReadFault.{ReadFault}
 use Rattle.cql_reader.specs.declared.ReadFault.TheVariants as faults
-use Rattle.cql_reader.specs.Lexis.{all_ascii}
-use Rattle.cql_reader.specs.Tokens.{Scan, scan_from}
+use Rattle.cql_reader.specs.Scanning.{Scan, all_ascii, scan_from}
 use Rattle.cql_reader.specs.Fault.{Fault, TextTooLong, NotAscii, BadToken, Unexpected, NumberRange, TooDeep}
 use Rattle.cql_reader.specs.Grammar.{Draft, took}
 use Rattle.cql_reader.specs.Prediction.{count, parsed}
 use Rattle.cql_reader.specs.Coded.{token_of, Tells, told, IsNext, IsRead, rest_of}
-use Rattle.cql_reader.specs.Reading.{judged, reading}
+use Rattle.cql_reader.specs.Judging.{judged, reading}
 use Rattle.cql_reader.proofs.Theory.{effort, effort_read}
 use Rattle.cql_reader.proofs.Runs.{Runs, left, runs_read, stops_end, stops_odd, stops_outside, stops_deep, stops_bad}
 

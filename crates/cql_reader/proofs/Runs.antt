@@ -11,7 +11,8 @@ use Rattle.cql_reader.specs.declared.symbols.Mark.{Mark}
 use Rattle.cql_reader.specs.declared.symbols.Symbol.{Symbol}
 use Rattle.cql_reader.specs.declared.symbols.Symbol.TheVariants.{Read, Rule, Emit}
 use Rattle.cql_reader.specs.Lexis.{number_of}
-use Rattle.cql_reader.specs.Tokens.{Token, Scan, End, Bad, Then}
+use Rattle.cql_reader.specs.Tokens.{Token}
+use Rattle.cql_reader.specs.Scanning.{Scan, End, Bad, Then}
 use Rattle.cql_reader.specs.Fault.{Fault, BadToken, Unexpected, NumberRange, TooDeep}
 use Rattle.cql_reader.specs.Grammar.{Draft, kind_of, in_range, may_open, took, did, whole, start}
 use Rattle.cql_reader.specs.Prediction.{same_kind, chosen, ahead, stopped, closed, taken, along, run, weight, weights, count, parsed}

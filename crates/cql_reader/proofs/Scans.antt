@@ -5,7 +5,8 @@ use Rattle.std.specs.List.{prefix_len}
 use Rattle.std.proofs.lemmas.Bool.{cases_Bool, cond-true, cond-false}
 use Rattle.cql_reader.specs.declared.tokens.TokenKind.{TokenKind}
 use Rattle.cql_reader.specs.Lexis.{is_blank, first_byte, token_at}
-use Rattle.cql_reader.specs.Tokens.{Token, Scan, End, Bad, Then, width, scanned, scan, scan_from}
+use Rattle.cql_reader.specs.Tokens.{Token}
+use Rattle.cql_reader.specs.Scanning.{Scan, End, Bad, Then, width, scanned, scan, scan_from}
 
 scan_passed : (n place : ℕ) (bs : List ℕ) → n ≤ length bs → scan place n bs ≡ scan (place + n) 0 (drop n bs)
 unfolding scan

@@ -7,7 +7,8 @@ use Rattle.std.proofs.lemmas.Bool.{cases_Bool, cases_lt, cond-true, cond-false, 
 use Rattle.cql_reader.specs.declared.tokens.TokenKind.{TokenKind}
 use Rattle.cql_reader.specs.declared.tokens.TokenKind.TheVariants as k
 use Rattle.cql_reader.specs.Lexis.{is_blank, is_letter, is_digit, is_word, first_byte, second_byte, symbol, token_at}
-use Rattle.cql_reader.specs.Tokens.{Token, end_of, Blank, Stands, NoToken, Scan, End, Bad, Then, scan, scan_from}
+use Rattle.cql_reader.specs.Tokens.{Token, end_of, Blank, Stands, NoToken}
+use Rattle.cql_reader.specs.Scanning.{Scan, End, Bad, Then, scan, scan_from}
 use Rattle.cql_reader.proofs.Scans.{scan_blanks, ink_behind, scan_bad, scan_token}
 
 -- How many bytes a token takes.

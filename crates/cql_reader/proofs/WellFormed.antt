@@ -2,7 +2,10 @@
 use Rattle.std.proofs.Common.{◌≡◌, refl, ℕ, zero, suc, ◌<◌, ◌≤◌, Bool, true, not, ◌&&◌, nat_lt, int_lt, ℤ, pos, negsuc, nat_abs, List, [], ◌∷◌, ◌++◌, Result, Ok, sym, ap, ◌∙◌, inl, inr, subst, arith, All as Each'}
 use Rattle.std.proofs.lemmas.Bool.{and_parts, ltb-true, lt-ltb, cases_lt, false≢true}
 use Rattle.std.proofs.lemmas.Int.{ints}
-use Rattle.values.specs.Value.{IsStreamNumber}
+use Rattle.values.specs.Moving.{HasStep}
+use Rattle.values.specs.Ranges.{IsStreamNumber}
+use Rattle.values.specs.declared.reach.Reach.{Reach}
+use Rattle.values.specs.declared.reach.Reach.TheVariants as reach
 use Rattle.cql_reader.specs.declared.symbols.Role.{Role}
 use Rattle.cql_reader.specs.declared.symbols.Role.TheVariants as r
 use Rattle.cql_reader.specs.declared.symbols.Mark.{Mark}
@@ -11,10 +14,11 @@ use Rattle.cql_reader.specs.declared.symbols.Symbol.{Symbol}
 use Rattle.cql_reader.specs.Lexis.{number_of}
 use Rattle.cql_reader.specs.Tokens.{Token}
 use Rattle.cql_reader.specs.Fault.{Fault}
-use Rattle.cql_reader.specs.Query.{Query, WrittenSource, WrittenEntry, Reference, WrittenWindow, Now, Range, RangeSlide, Unbounded, Rows, Partition, WrittenCondition}
-use Rattle.cql_reader.specs.Grammar.{Draft, Strict, in_span, in_step, in_rows, in_stream, in_range, may_open, allowed, took, did, listed, last_standing, partitioned, sliding, negated, conjoined, disjoined, Derives, nothing, read, emit, rule}
-use Rattle.cql_reader.specs.Reading.{IsAnswer, reading}
-use Rattle.cql_reader.specs.WellFormed.{HasItems, IsRowCount, IsGoodWindow, IsGoodOperand, IsGoodCondition, IsGoodWhere, IsWellFormed}
+use Rattle.cql_reader.specs.Query.{Query, WrittenSource, WrittenEntry, Reference, WrittenWindow, Instants, Rows, Partition, WrittenCondition}
+use Rattle.cql_reader.specs.Grammar.{Draft, Strict, in_span, in_step, in_rows, in_stream, in_range, may_open, allowed, took, did, listed, last_standing, partitioned, slid_reach, sliding, negated, conjoined, disjoined, Derives, nothing, read, emit, rule}
+use Rattle.cql_reader.specs.Reading.{IsAnswer}
+use Rattle.cql_reader.specs.Judging.{reading}
+use Rattle.cql_reader.specs.WellFormed.{HasItems, IsInRange, IsRowCount, IsGoodWindow, IsGoodOperand, IsGoodCondition, IsGoodWhere, IsWellFormed}
 use Rattle.cql_reader.proofs.OneAnswer.{reading_right}
 use Rattle.cql_reader.proofs.Sources.{query_sources}
 
@@ -91,11 +95,13 @@ good_parted : (columns : List Reference) (rows : ℕ) (window : WrittenWindow) �
 good_parted [] rows window h g = g
 good_parted (column ∷ columns) rows window h g = (omega arith, h)
 
+good_slid_reach : (step : ℕ) (r : Reach) → (1 ≤ step) × (step ≤ 1099511627776) → HasStep r × IsInRange r → HasStep (slid_reach step r) × IsInRange (slid_reach step r)
+good_slid_reach step reach.All h g = g
+good_slid_reach step (reach.Last instants) h g = (omega (arith, h.0), (g.1, h.1))
+good_slid_reach step (reach.Steps instants other) h g = g
+
 good_slid : (step : ℕ) (window : WrittenWindow) → (1 ≤ step) × (step ≤ 1099511627776) → IsGoodWindow window → IsGoodWindow (sliding step window)
-good_slid step Now h g = tt
-good_slid step (Range instants) h g = (g, h)
-good_slid step (RangeSlide instants other) h g = g
-good_slid step Unbounded h g = tt
+good_slid step (Instants r) h g = good_slid_reach step r h g
 good_slid step (Rows rows) h g = g
 good_slid step (Partition by rows) h g = g
 
@@ -110,12 +116,12 @@ good_took (r.Operator operator) bytes d h s = s
 good_took r.Distinct bytes d h s = s
 good_took r.Column bytes d h s = s
 good_took r.Qualified bytes d h s = s
-good_took r.Stream bytes d h s = (tt, s.1, s.2, s.3, s.4)
+good_took r.Stream bytes d h s = ((tt, tt), s.1, s.2, s.3, s.4)
 good_took r.Alias bytes d h s = s
-good_took r.Now bytes d h s = (tt, s.1, s.2, s.3, s.4)
-good_took r.Range bytes d h s = (span_bound (number_of bytes) h, s.1, s.2, s.3, s.4)
+good_took r.Now bytes d h s = ((tt, omega arith), s.1, s.2, s.3, s.4)
+good_took r.Range bytes d h s = ((tt, span_bound (number_of bytes) h), s.1, s.2, s.3, s.4)
 good_took r.Slide bytes d h s = (good_slid (nat_abs (number_of bytes)) d.source.window (step_bound (number_of bytes) h) s.0, s.1, s.2, s.3, s.4)
-good_took r.Unbounded bytes d h s = (tt, s.1, s.2, s.3, s.4)
+good_took r.Unbounded bytes d h s = ((tt, tt), s.1, s.2, s.3, s.4)
 good_took r.Rows bytes d h s = (rows_bound (number_of bytes) h, s.1, s.2, s.3, s.4)
 good_took r.Partition bytes d h s = (good_parted d.columns (nat_abs (number_of bytes)) d.source.window (rows_bound (number_of bytes) h) s.0, s.1, s.2, s.3, s.4)
 good_took r.Number bytes d h s = (s.0, s.1, s.3, stream_bound (number_of bytes) h, s.4)
@@ -129,7 +135,7 @@ good_did m.CountAll d s = s
 good_did (m.Of a) d s = s
 good_did m.Listed d s = s
 good_did m.Grouped d s = s
-good_did m.Source d s = (tt, good_append d.sources d.source s.1 s.0, s.2, s.3, s.4)
+good_did m.Source d s = ((tt, tt), good_append d.sources d.source s.1 s.0, s.2, s.3, s.4)
 good_did m.Named d s = (s.0, s.1, s.3, tt, s.4)
 good_did m.Compared d s = (s.0, s.1, s.2, s.3, ((s.2, s.3), s.4))
 good_did m.Negate d s = (s.0, s.1, s.2, s.3, good_negated d.terms.standing s.4)
@@ -158,7 +164,7 @@ well_formed text q e =
     let right : IsAnswer text (Ok q) = subst (λ (v : Result Query Fault). IsAnswer text v) e (reading_right text) in
     let d = right.1.draft in
     let zero_good : IsStreamNumber (pos 0) = stream_bound (pos 0) refl in
-    let g : Good d = good_derived right.1.derived (tt, tt, zero_good, zero_good, tt) in
+    let g : Good d = good_derived right.1.derived ((tt, tt), tt, zero_good, zero_good, tt) in
     let n = query_sources Strict right.1.tokens d right.1.derived in
     subst IsWellFormed (sym right.1.built) (record {
       items = has_items d.entries;

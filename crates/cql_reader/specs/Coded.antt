@@ -9,8 +9,9 @@ use Rattle.cql_reader.specs.declared.build.Draft.{Draft as CodedDraft}
 use Rattle.cql_reader.specs.declared.ReadFault.{ReadFault}
 use Rattle.cql_reader.specs.declared.ReadFault.TheVariants as faults
 use Rattle.cql_reader.specs.Lexis.{number_of}
-use Rattle.cql_reader.specs.Tokens.{Token, Scan, End, Bad, Then, scan_from}
-use Rattle.values.specs.Resolved.{operator_of}
+use Rattle.cql_reader.specs.Tokens.{Token}
+use Rattle.cql_reader.specs.Scanning.{Scan, End, Bad, Then, scan_from}
+use Rattle.values.specs.StreamOperators.{operator_of}
 use Rattle.cql_reader.specs.Query.{WrittenCondition}
 use Rattle.cql_reader.specs.Views.{reference_of, references_of, entry_of, source_of, sources_of}
 use Rattle.cql_reader.specs.Views.{operand_of, condition_of}

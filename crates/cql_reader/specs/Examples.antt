@@ -2,23 +2,23 @@
 use Rattle.std.specs.Prelude.{◌≡◌, ℕ, zero, suc, List, [], ◌∷◌, ◌++◌, Option, Some, None, Result}
 use Rattle.std.specs.Prelude.{Ok, Err, codes, refl, true, false, pos, negsuc}
 use Rattle.values.specs.Answers.{StreamOperator, Istream, Dstream, Rstream}
+use Rattle.values.specs.declared.reach.Reach.TheVariants.{Last, Steps}
 use Rattle.values.specs.declared.resolved.Aggregate.TheVariants.{Sum}
 use Rattle.values.specs.declared.resolved.Compare.{Compare}
 use Rattle.values.specs.declared.resolved.Compare.TheVariants.{Equals, Differs, Below, AtMost}
 use Rattle.values.specs.declared.resolved.Compare.TheVariants.{Above, AtLeast}
 use Rattle.cql_reader.specs.Lexis.{is_name, reserved, same_bytes, same_letters, kind_in, word_kind}
-use Rattle.cql_reader.specs.Lexis.{all_word, all_ascii, token_at, decimal, number_of}
-use Rattle.cql_reader.specs.Tokens.{scan}
+use Rattle.cql_reader.specs.Lexis.{all_word, token_at, decimal, number_of}
+use Rattle.cql_reader.specs.Scanning.{all_ascii, scan}
 use Rattle.cql_reader.specs.Query.{Query, Reference, Column, CountAll, Of, All, Each, WrittenWindow}
-use Rattle.cql_reader.specs.Query.{Now}
-use Rattle.cql_reader.specs.Query.{Range, RangeSlide, Unbounded, Rows, Partition, WrittenSource}
+use Rattle.cql_reader.specs.Query.{Instants, Rows, Partition, WrittenSource}
 use Rattle.cql_reader.specs.Query.{WrittenOperand}
 use Rattle.cql_reader.specs.Query.{Named, Number, WrittenCondition, Compared, Not, And, Or}
-use Rattle.cql_reader.specs.Grammar.{alternatives, kind_of, in_range, deepens, took, did}
+use Rattle.cql_reader.specs.Grammar.{alternatives, kind_of, in_range, deepens, took, did, unbounded}
 use Rattle.cql_reader.specs.Fault.{Fault, BadToken, Unexpected, NumberRange, TooDeep}
 use Rattle.cql_reader.specs.Prediction.{first, nullable, has, firsts, ends, pick, chosen, run}
 use Rattle.cql_reader.specs.Prediction.{count, parsed}
-use Rattle.cql_reader.specs.Reading.{reading}
+use Rattle.cql_reader.specs.Judging.{reading}
 
 -- a query of `*`
 abbrev all : StreamOperator → List WrittenSource → Option WrittenCondition → Query
@@ -50,28 +50,28 @@ abbrev at : (ℕ → Fault) → ℕ → Result Query Fault
 at fault place = Err (fault place)
 
 now_window : reading (codes "Select Istream(*) From S [Now]")
-    ≡ Ok (all Istream (from_S Now None ∷ []) None)
+    ≡ Ok (all Istream (from_S (Instants (Last 0)) None ∷ []) None)
 unfolding reading all_ascii parsed scan token_at word_kind kind_in reserved same_letters same_bytes
     run count chosen pick firsts ends has first nullable alternatives kind_of in_range deepens took
     did decimal number_of
 now_window = refl
 
 nothing_between : reading (codes "sELECT rstream(*)FROM S[Range 007]as t;")
-    ≡ Ok (all Rstream (from_S (Range 7) (Some (codes "t")) ∷ []) None)
+    ≡ Ok (all Rstream (from_S (Instants (Last 7)) (Some (codes "t")) ∷ []) None)
 unfolding reading all_ascii parsed scan token_at word_kind kind_in reserved same_letters same_bytes
     run count chosen pick firsts ends has first nullable alternatives kind_of in_range deepens took
     did decimal number_of
 nothing_between = refl
 
 alias_first : reading (codes "Select Dstream(*) From S t [Range -0]")
-    ≡ Ok (all Dstream (from_S (Range 0) (Some (codes "t")) ∷ []) None)
+    ≡ Ok (all Dstream (from_S (Instants (Last 0)) (Some (codes "t")) ∷ []) None)
 unfolding reading all_ascii parsed scan token_at word_kind kind_in reserved same_letters same_bytes
     run count chosen pick firsts ends has first nullable alternatives kind_of in_range deepens took
     did decimal number_of
 alias_first = refl
 
 select_within : reading (codes "Rstream(Select * From S [Rows Unbounded], T [Rows 65536])")
-    ≡ Ok (all Rstream (from_S Unbounded None
+    ≡ Ok (all Rstream (from_S unbounded None
     ∷ record { stream = codes "T"; window = Rows 65536; alias = None } ∷ []) None)
 unfolding reading all_ascii parsed scan token_at word_kind kind_in reserved same_letters same_bytes
     run count chosen pick firsts ends has first nullable alternatives kind_of in_range deepens took
@@ -79,15 +79,15 @@ unfolding reading all_ascii parsed scan token_at word_kind kind_in reserved same
 select_within = refl
 
 a_slide : reading (codes "Select Istream(*) From S [Range 1 Slide 2]")
-    ≡ Ok (all Istream (from_S (RangeSlide 1 2) None ∷ []) None)
+    ≡ Ok (all Istream (from_S (Instants (Steps 1 2)) None ∷ []) None)
 unfolding reading all_ascii parsed scan token_at word_kind kind_in reserved same_letters same_bytes
     run count chosen pick firsts ends has first nullable alternatives kind_of in_range deepens took
     did decimal number_of
 a_slide = refl
 
 four_sources : reading (codes "Select Istream(*) From S, S t, S [Now], S")
-    ≡ Ok (all Istream (from_S Unbounded None ∷ from_S Unbounded (Some (codes "t")) ∷ from_S Now None
-    ∷ from_S Unbounded None ∷ []) None)
+    ≡ Ok (all Istream (from_S unbounded None ∷ from_S unbounded (Some (codes "t"))
+    ∷ from_S (Instants (Last 0)) None ∷ from_S unbounded None ∷ []) None)
 unfolding reading all_ascii parsed scan token_at word_kind kind_in reserved same_letters same_bytes
     run count chosen pick firsts ends has first nullable alternatives kind_of in_range deepens took
     did decimal number_of
@@ -107,7 +107,7 @@ a_list : reading (codes "Select Istream(Distinct k As j, Count(*), Sum(S.v)) Fro
       is_distinct = true;
       entries = Each (Column (named (codes "k")) ∷ CountAll
           ∷ Of Sum (of (codes "S") (codes "v")) ∷ []);
-      sources = from_S Unbounded None ∷ [];
+      sources = from_S unbounded None ∷ [];
       condition = None;
       group = named (codes "k") ∷ named (codes "v") ∷ [];
     })
@@ -117,7 +117,7 @@ unfolding reading all_ascii parsed scan token_at word_kind kind_in reserved same
 a_list = refl
 
 and_before_or : reading (codes "Select Istream(*) From S Where a = 1 Or b <> -2 And c != d")
-    ≡ Ok (all Istream (from_S Unbounded None ∷ [])
+    ≡ Ok (all Istream (from_S unbounded None ∷ [])
     (Some (Or (test (codes "a") Equals (Number (pos 1)))
     (And (test (codes "b") Differs (Number (negsuc 1)))
     (test (codes "c") Differs (Named (named (codes "d"))))))))
@@ -128,7 +128,7 @@ and_before_or = refl
 
 from_the_left : reading (codes
     "Select Istream(*) From S Where a < 1 And b <= 1 And Not (c > 1 Or d >= 1)")
-    ≡ Ok (all Istream (from_S Unbounded None ∷ [])
+    ≡ Ok (all Istream (from_S unbounded None ∷ [])
     (Some (And (And (test (codes "a") Below (Number (pos 1)))
     (test (codes "b") AtMost (Number (pos 1))))
     (Not (Or (test (codes "c") Above (Number (pos 1)))
@@ -190,7 +190,7 @@ room_for_more : reading (codes "Select Istream(a) From S Where " ++ in_brackets 
       operator = Istream;
       is_distinct = false;
       entries = Each (Column (named (codes "a")) ∷ []);
-      sources = from_S Unbounded None ∷ [];
+      sources = from_S unbounded None ∷ [];
       condition = Some (test (codes "a") Above (Number (pos 0)));
       group = [];
     })

@@ -1,3 +1,4 @@
+-- TO BELIEVE: the theorem rests on these definitions, and no proof can check them.
 -- Why a text is no query.
 use Rattle.std.specs.Prelude.{ℕ}
 

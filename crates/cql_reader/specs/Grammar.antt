@@ -1,10 +1,13 @@
+-- TO BELIEVE: the theorem rests on these definitions, and no proof can check them.
 -- The grammar of query texts, and the query that a derivation builds.
 use Rattle.std.specs.Prelude.{◌≡◌, ℕ, ◌+◌, ◌-◌, Bool, true, false, ◌&&◌, not, ◌⊎◌, List, [], ◌∷◌}
 use Rattle.std.specs.Prelude.{◌++◌, Option, Some, None, cond, nat_lt, ℤ, pos, negsuc, int_lt}
 use Rattle.std.specs.Prelude.{nat_abs}
 use Rattle.values.specs.Answers.{StreamOperator, Istream}
+use Rattle.values.specs.declared.reach.Reach.{Reach}
+use Rattle.values.specs.declared.reach.Reach.TheVariants as reach
 use Rattle.values.specs.declared.resolved.Compare.{Compare}
-use Rattle.values.specs.Resolved.{operator_of}
+use Rattle.values.specs.StreamOperators.{operator_of}
 use Rattle.values.specs.declared.resolved.StreamOperator.TheVariants as o
 use Rattle.values.specs.declared.resolved.Aggregate.TheVariants as g
 use Rattle.values.specs.declared.resolved.Compare.TheVariants as c
@@ -21,10 +24,8 @@ use Rattle.cql_reader.specs.declared.symbols.Symbol.TheVariants.{Read, Rule, Emi
 use Rattle.cql_reader.specs.Lexis.{number_of}
 use Rattle.cql_reader.specs.Tokens.{Token}
 use Rattle.cql_reader.specs.Query.{Query, WrittenSource, WrittenEntry, Column, CountAll, Of}
-use Rattle.cql_reader.specs.Query.{Entries, All, Each, Reference, WrittenWindow, Now, Range}
-use Rattle.cql_reader.specs.Query.{RangeSlide}
-use Rattle.cql_reader.specs.Query.{Unbounded, Rows, Partition, WrittenOperand, Named, Number}
-use Rattle.cql_reader.specs.Query.{WrittenCondition}
+use Rattle.cql_reader.specs.Query.{Entries, All, Each, Reference, WrittenWindow, Instants, Rows}
+use Rattle.cql_reader.specs.Query.{Partition, WrittenOperand, Named, Number, WrittenCondition}
 use Rattle.cql_reader.specs.Query.{Compared, Not, And, Or}
 
 -- a token of this kind, which says nothing more
@@ -142,9 +143,13 @@ pub record Draft : Type 0 where
   -- how many ( and Not of the condition are open
   pub depth : ℕ
 
+-- the window of a stream without one, and of each that is unbounded
+abbrev pub unbounded : WrittenWindow
+unbounded = Instants reach.All
+
 -- a source of which nothing is read
 abbrev pub no_source : WrittenSource
-no_source = record { stream = []; window = Unbounded; alias = None }
+no_source = record { stream = []; window = unbounded; alias = None }
 
 abbrev pub no_terms : Terms
 no_terms = record { left = Number (pos 0); right = Number (pos 0); how = c.Equals; standing = [] }
@@ -189,12 +194,15 @@ finished d = record {
 abbrev pub windowed : WrittenWindow → WrittenSource → WrittenSource
 windowed window s = record { stream = s.stream; window = window; alias = s.alias }
 
--- a window of instants moves at multiples of the step alone
+-- the last instants, which move at multiples of the step alone
+abbrev pub slid_reach : ℕ → Reach → Reach
+slid_reach step reach.All = reach.All
+slid_reach step (reach.Last instants) = reach.Steps instants step
+slid_reach step (reach.Steps instants other) = reach.Steps instants other
+
+-- so of a window
 abbrev pub sliding : ℕ → WrittenWindow → WrittenWindow
-sliding step Now = Now
-sliding step (Range instants) = RangeSlide instants step
-sliding step (RangeSlide instants other) = RangeSlide instants other
-sliding step Unbounded = Unbounded
+sliding step (Instants r) = Instants (slid_reach step r)
 sliding step (Rows rows) = Rows rows
 sliding step (Partition by rows) = Partition by rows
 
@@ -254,15 +262,17 @@ took r.Qualified bytes d = record d {
   reference = record { qualifier = Some d.reference.name; name = bytes };
 }
 took r.Stream bytes d = record d {
-  source = record { stream = bytes; window = Unbounded; alias = None };
+  source = record { stream = bytes; window = unbounded; alias = None };
 }
 took r.Alias bytes d = record d {
   source = record { stream = d.source.stream; window = d.source.window; alias = Some bytes };
 }
-took r.Now bytes d = record d { source = windowed Now d.source }
-took r.Range bytes d = record d { source = windowed (Range (nat_abs (number_of bytes))) d.source }
+took r.Now bytes d = record d { source = windowed (Instants (reach.Last 0)) d.source }
+took r.Range bytes d = record d {
+  source = windowed (Instants (reach.Last (nat_abs (number_of bytes)))) d.source;
+}
 took r.Slide bytes d = slid (nat_abs (number_of bytes)) d
-took r.Unbounded bytes d = record d { source = windowed Unbounded d.source }
+took r.Unbounded bytes d = record d { source = windowed unbounded d.source }
 took r.Rows bytes d = record d { source = windowed (Rows (nat_abs (number_of bytes))) d.source }
 took r.Partition bytes d = parted (nat_abs (number_of bytes)) d
 took r.Number bytes d = record d { terms = sided (Number (number_of bytes)) d.terms }

@@ -1,7 +1,8 @@
+-- TO BELIEVE: the theorem rests on these definitions, and no proof can check them.
 -- The kinds of bytes and of words.
 use Rattle.std.specs.Prelude.{ℕ, ◌+◌, ◌-◌, ◌*◌, Bool, true, false, not, ◌&&◌, ◌||◌, List, [], ◌∷◌}
-use Rattle.std.specs.Prelude.{Option, Some, None, cond, is_some, nat_le, nat_lt, nat_eq, map}
-use Rattle.std.specs.Prelude.{length, min, codes, take, drop, ℤ, pos, negsuc, neg_ℤ}
+use Rattle.std.specs.Prelude.{Option, Some, None, cond, is_some, nat_le, nat_eq, map, length, min}
+use Rattle.std.specs.Prelude.{codes, take, drop, ℤ, pos, neg_ℤ}
 use Rattle.std.specs.List.{prefix_len}
 use Rattle.std.specs.Char.{to_ascii_lowercase}
 use Rattle.cql_reader.specs.declared.tokens.TokenKind.{TokenKind}
@@ -129,13 +130,3 @@ decimal n (d ∷ ds) = decimal (10 * n + (d - 48)) ds
 unfoldable pub number_of : List ℕ → ℤ
 number_of bytes = cond (nat_eq (first_byte bytes) 45) (neg_ℤ (pos (decimal 0 (drop 1 bytes))))
     (pos (decimal 0 bytes))
-
--- the number, cut off where it is outside each range
-unfoldable pub capped : ℤ → ℤ
-capped (pos n) = pos (min n 2199023255552)
-capped (negsuc n) = negsuc (min n 2199023255551)
-
--- each byte is at most 127
-unfoldable pub all_ascii : List ℕ → Bool
-all_ascii [] = true
-all_ascii (b ∷ bs) = nat_lt b 128 && all_ascii bs

@@ -1,12 +1,15 @@
 pub mod Lexis
 pub mod Tokens
+pub mod Scanning
 pub mod Query
 pub mod Views
+pub mod Names
 pub mod Grammar
 pub mod Fault
 pub mod FaultTexts
 pub mod Prediction
 pub mod Coded
 pub mod Reading
+pub mod Judging
 pub mod WellFormed
 pub mod Examples

@@ -10,7 +10,7 @@ use Rattle.cql_reader.specs.declared.symbols.Part.TheVariants as p
 use Rattle.cql_reader.specs.declared.symbols.Symbol.{Symbol}
 use Rattle.cql_reader.specs.declared.symbols.Symbol.TheVariants.{Read, Rule, Emit}
 use Rattle.cql_reader.specs.Lexis.{number_of}
-use Rattle.cql_reader.specs.Tokens.{Scan, End, Bad, Then}
+use Rattle.cql_reader.specs.Scanning.{Scan, End, Bad, Then}
 use Rattle.cql_reader.specs.Grammar.{alternatives, kind_of, in_range, may_open, Draft, took, did}
 use Rattle.cql_reader.specs.Grammar.{start, whole}
 use Rattle.cql_reader.specs.Fault.{Fault, BadToken, Unexpected, NumberRange, TooDeep}

@@ -1,6 +1,8 @@
+-- TO BELIEVE: the theorem rests on these definitions, and no proof can check them.
 -- The query that a text names, before its names are looked up.
 use Rattle.std.specs.Prelude.{ℕ, ℤ, Bool, List, Option}
 use Rattle.values.specs.Answers.{StreamOperator}
+use Rattle.values.specs.declared.reach.Reach.{Reach}
 use Rattle.values.specs.declared.resolved.Aggregate.{Aggregate}
 use Rattle.values.specs.declared.resolved.Compare.{Compare}
 
@@ -20,12 +22,9 @@ pub data Entries : Type 0 where
   All : Entries
   Each : List WrittenEntry → Entries
 
--- the window on a stream; no window is Unbounded
+-- the window on a stream; no window shows all instants
 pub data WrittenWindow : Type 0 where
-  Now : WrittenWindow
-  Range : ℕ → WrittenWindow
-  RangeSlide : ℕ → ℕ → WrittenWindow
-  Unbounded : WrittenWindow
+  Instants : Reach → WrittenWindow
   Rows : ℕ → WrittenWindow
   Partition : List Reference → ℕ → WrittenWindow
 

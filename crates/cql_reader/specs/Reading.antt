@@ -1,19 +1,13 @@
+-- TO BELIEVE: the theorem rests on these definitions, and no proof can check them.
 -- What the reader answers: the query that a text names, or the first fault from the left.
-use Rattle.std.specs.Prelude.{◌≡◌, ℕ, ◌<◌, ◌≤◌, ◌⊎◌, List, [], ◌∷◌, ◌++◌, length, cond, nat_lt}
-use Rattle.std.specs.Prelude.{Result, Ok, Err}
+use Rattle.std.specs.Prelude.{◌≡◌, ℕ, ◌<◌, ◌≤◌, ◌⊎◌, List, [], ◌∷◌, ◌++◌, length, Result, Ok, Err}
 use Rattle.std.specs.Str.{IsAscii, IsNotAscii}
-use Rattle.cql_reader.specs.Lexis.{all_ascii}
-use Rattle.cql_reader.specs.Tokens.{Token, Tokens, NoToken, end_of, scan_from}
+use Rattle.cql_reader.specs.Tokens.{Token, Tokens, NoToken, end_of}
 use Rattle.cql_reader.specs.Query.{Query}
-use Rattle.cql_reader.specs.Views.{query_of}
-use Rattle.cql_reader.specs.Coded.{Tells}
-use Rattle.cql_reader.specs.declared.query.Query.{Query as CodedQuery}
-use Rattle.cql_reader.specs.declared.ReadFault.{ReadFault}
 use Rattle.cql_reader.specs.Grammar.{Draft, Level, Shape, Ranged, Strict, IsQuery, Begins, Fails}
 use Rattle.cql_reader.specs.Grammar.{finished}
 use Rattle.cql_reader.specs.Fault.{Fault, TextTooLong, NotAscii, BadToken, Unexpected, NumberRange}
 use Rattle.cql_reader.specs.Fault.{TooDeep}
-use Rattle.cql_reader.specs.Prediction.{parsed}
 
 -- a text that is judged token by token
 pub record Fine (text : List ℕ) : Type 0 where
@@ -76,18 +70,3 @@ IsAnswer text (Err (BadToken place)) = Fine text × OddByte text place
 IsAnswer text (Err (Unexpected place)) = Fine text × (OddToken text place ⊎ TooShort text place)
 IsAnswer text (Err (NumberRange place)) = Fine text × Outside Shape Ranged text place
 IsAnswer text (Err (TooDeep place)) = Fine text × Outside Ranged Strict text place
-
-abbrev pub judged : Result Draft Fault → Result Query Fault
-judged (Ok draft) = Ok (finished draft)
-judged (Err fault) = Err fault
-
--- the one right answer
-unfoldable pub reading : List ℕ → Result Query Fault
-reading text =
-    cond (nat_lt 4096 (length text)) (Err TextTooLong) (
-    cond (all_ascii text) (judged (parsed (scan_from text 0))) (Err NotAscii))
-
--- the query, or the fault, is that of the answer, but for want of memory
-abbrev pub Reads : Result Query Fault → Result CodedQuery ReadFault → Type 0
-Reads answer (Ok query) = answer ≡ Ok (query_of query)
-Reads answer (Err fault) = Tells answer fault

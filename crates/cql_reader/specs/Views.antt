@@ -1,6 +1,6 @@
 -- What the values of the program say.
-use Rattle.std.specs.Prelude.{ℕ, List, map, take, Option, Some, None}
-use Rattle.values.specs.Resolved.{operator_of}
+use Rattle.std.specs.Prelude.{ℕ, List, map, Option, Some, None}
+use Rattle.values.specs.StreamOperators.{operator_of}
 use Rattle.cql_reader.specs.declared.name.Name.{Name}
 use Rattle.cql_reader.specs.declared.query.Reference.{Reference}
 use Rattle.cql_reader.specs.declared.query.WrittenEntry.{WrittenEntry}
@@ -16,9 +16,7 @@ use Rattle.cql_reader.specs.declared.query.WrittenCondition.{WrittenCondition, C
 use Rattle.cql_reader.specs.declared.query.WrittenCondition.{Or'}
 use Rattle.cql_reader.specs.declared.query.Query.{Query}
 use Rattle.cql_reader.specs.Query as syntax
-
-abbrev pub name_of : Name → List ℕ
-name_of name = take name.len name.bytes
+use Rattle.cql_reader.specs.Names.{name_of}
 
 abbrev pub alias_of : Option Name → Option (List ℕ)
 alias_of None = None
@@ -40,10 +38,7 @@ entries_of All = syntax.All
 entries_of (Each es) = syntax.Each (map entry_of es.items)
 
 abbrev pub window_of : WrittenWindow → syntax.WrittenWindow
-window_of windows.Now = syntax.Now
-window_of (windows.Range instants) = syntax.Range instants
-window_of (windows.RangeSlide instants step) = syntax.RangeSlide instants step
-window_of windows.Unbounded = syntax.Unbounded
+window_of (windows.Instants reach) = syntax.Instants reach
 window_of (windows.Rows rows) = syntax.Rows rows
 window_of (windows.Partition by rows) = syntax.Partition (references_of by.items) rows
 

@@ -1,9 +1,11 @@
 -- What holds for each query that is read.
 use Rattle.std.specs.Prelude.{ℕ, ◌<◌, ◌≤◌, Option, Some, None, length, All as Each'}
-use Rattle.values.specs.Value.{IsStreamNumber}
-use Rattle.cql_reader.specs.Query.{Query, Entries, All, Each, WrittenWindow, Now, Range, RangeSlide}
-use Rattle.cql_reader.specs.Query.{Unbounded, Rows, Partition, WrittenOperand, Named, Number}
-use Rattle.cql_reader.specs.Query.{WrittenCondition}
+use Rattle.values.specs.Ranges.{IsStreamNumber}
+use Rattle.values.specs.Moving.{HasStep}
+use Rattle.values.specs.declared.reach.Reach.{Reach}
+use Rattle.values.specs.declared.reach.Reach.TheVariants as reach
+use Rattle.cql_reader.specs.Query.{Query, Entries, All, Each, WrittenWindow, Instants, Rows}
+use Rattle.cql_reader.specs.Query.{Partition, WrittenOperand, Named, Number, WrittenCondition}
 use Rattle.cql_reader.specs.Query.{Compared, Not, And, Or}
 use Rattle.cql_reader.specs.declared.TheConstants.{MAX_SOURCES}
 
@@ -15,13 +17,15 @@ HasItems (Each entries) = 0 < length entries
 abbrev pub IsRowCount : ℕ → Type 0
 IsRowCount rows = (1 ≤ rows) × (rows ≤ 65536)
 
+-- the numbers of a window of instants are at most 1,099,511,627,776
+abbrev pub IsInRange : Reach → Type 0
+IsInRange reach.All = Unit {0}
+IsInRange (reach.Last instants) = instants ≤ 1099511627776
+IsInRange (reach.Steps instants step) = (instants ≤ 1099511627776) × (step ≤ 1099511627776)
+
 -- a window's numbers are in their ranges, and there are columns to part by
 abbrev pub IsGoodWindow : WrittenWindow → Type 0
-IsGoodWindow Now = Unit {0}
-IsGoodWindow (Range instants) = instants ≤ 1099511627776
-IsGoodWindow (RangeSlide instants step) =
-    (instants ≤ 1099511627776) × ((1 ≤ step) × (step ≤ 1099511627776))
-IsGoodWindow Unbounded = Unit {0}
+IsGoodWindow (Instants r) = HasStep r × IsInRange r
 IsGoodWindow (Rows rows) = IsRowCount rows
 IsGoodWindow (Partition by rows) = (0 < length by) × IsRowCount rows
 

@@ -1,11 +1,11 @@
 //! Builds the query as far as it is read.
 
-ghost use Rattle.std.specs.Prelude.{◌≡◌, ◌≤◌, true, length, map, OnOk};
+ghost use Rattle.std.specs.Prelude.{◌≡◌, ◌<◌, ◌≤◌, true, length, map, OnOk};
 ghost use Rattle.cql_reader.specs.Lexis.{number_of};
 ghost use Rattle.cql_reader.specs.declared.tokens.TokenKind.TheVariants as kinds;
 ghost use Rattle.cql_reader.specs.declared.symbols.Mark.TheVariants as marks;
 ghost use Rattle.cql_reader.specs.Grammar.{kind_of, in_range, may_open, took, did, entered, parted};
-ghost use Rattle.cql_reader.specs.Grammar.{slid, listed, start, finished, no_source};
+ghost use Rattle.cql_reader.specs.Grammar.{slid, slid_reach, listed, start, finished, no_source};
 ghost use Rattle.cql_reader.specs.Views.{query_of, entries_of, entry_of, source_of};
 ghost use Rattle.cql_reader.specs.Coded.{draft_of};
 
@@ -18,7 +18,7 @@ use crate::stack::Terms;
 use crate::symbols::{Mark, Role};
 use std::alloc::{AllocError, Global};
 use std::mem;
-use values::StreamOperator;
+use values::{Reach, Step, StreamOperator};
 
 /// Holds what is complete of a query, and what is being read.
 #[derive(Drop)]
@@ -94,15 +94,17 @@ impl Draft {
             Role::Stream => {
                 self.source = WrittenSource {
                     stream: Name::new(bytes),
-                    window: WrittenWindow::Unbounded,
+                    window: WrittenWindow::Instants(Reach::All),
                     alias: None,
                 }
             }
             Role::Alias => self.source.alias = Some(Name::new(bytes)),
-            Role::Now => self.source.window = WrittenWindow::Now,
-            Role::Range => self.source.window = WrittenWindow::Range(natural_in(bytes)),
+            Role::Now => self.source.window = WrittenWindow::Instants(Reach::Last(0)),
+            Role::Range => {
+                self.source.window = WrittenWindow::Instants(Reach::Last(natural_in(bytes)));
+            }
             Role::Slide => self.slide(natural_in(bytes)),
-            Role::Unbounded => self.source.window = WrittenWindow::Unbounded,
+            Role::Unbounded => self.source.window = WrittenWindow::Instants(Reach::All),
             Role::Rows => self.source.window = WrittenWindow::Rows(natural_in(bytes)),
             Role::Partition => self.partition(alloc, natural_in(bytes)),
             Role::Number => self.terms.push(WrittenOperand::Number(number_in(bytes))),
@@ -113,10 +115,11 @@ impl Draft {
 
     /// Lets the window of instants on the source move only at multiples of the step.
     fn slide(&mut self, step: u64)
+        requires { 0 < step }
         ensures { draft_of self.new ≡ slid step (draft_of self.old) }
     {
-        if let WrittenWindow::Range(instants) = self.source.window {
-            self.source.window = WrittenWindow::RangeSlide(instants, step);
+        if let WrittenWindow::Instants(reach) = self.source.window {
+            self.source.window = WrittenWindow::Instants(sliding(reach, Step::new(step)));
         }
     }
 
@@ -225,7 +228,18 @@ fn empty_source() -> WrittenSource
 {
     WrittenSource {
         stream: Name::new(b""),
-        window: WrittenWindow::Unbounded,
+        window: WrittenWindow::Instants(Reach::All),
         alias: None,
+    }
+}
+
+/// Returns the reach that moves only at multiples of the step, if it is the last instants.
+fn sliding(reach: Reach, step: Step) -> Reach
+    ensures { result ≡ slid_reach step reach }
+{
+    match reach {
+        Reach::All => Reach::All,
+        Reach::Last(span) => Reach::Steps(span, step),
+        Reach::Steps(span, other) => Reach::Steps(span, other),
     }
 }

@@ -2,7 +2,8 @@
 
 ghost use Rattle.std.specs.Prelude.{◌≡◌, ◌<◌, ◌≤◌, length};
 ghost use Rattle.std.specs.List.{prefix_len};
-ghost use Rattle.cql_reader.specs.Lexis.{is_blank, is_digit, is_letter, is_word, all_ascii};
+ghost use Rattle.cql_reader.specs.Lexis.{is_blank, is_digit, is_letter, is_word};
+ghost use Rattle.cql_reader.specs.Scanning.{all_ascii};
 ghost use Rattle.cql_reader.specs.Lexis.{all_word, first_byte, second_byte};
 
 /// Returns whether the byte is a space, a tab, a line feed or a carriage return.

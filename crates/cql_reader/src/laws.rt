@@ -3,7 +3,8 @@
 ghost use Rattle.std.specs.Prelude.{◌≡◌, List, ℕ, Result, Ok};
 ghost use Rattle.cql_reader.specs.Fault.{Fault};
 ghost use Rattle.cql_reader.specs.Query.{Query};
-ghost use Rattle.cql_reader.specs.Reading.{IsAnswer, reading};
+ghost use Rattle.cql_reader.specs.Reading.{IsAnswer};
+ghost use Rattle.cql_reader.specs.Judging.{reading};
 ghost use Rattle.cql_reader.specs.WellFormed.{IsWellFormed};
 
 /// States that each text has one right answer, the one that `read` gives.

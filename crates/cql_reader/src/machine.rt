@@ -5,9 +5,9 @@ ghost use Rattle.cql_reader.specs.Lexis.{number_of};
 ghost use Rattle.cql_reader.specs.Grammar.{kind_of, in_range, in_span, in_step, in_rows, in_stream};
 ghost use Rattle.cql_reader.specs.Grammar.{may_open};
 ghost use Rattle.cql_reader.specs.Prediction.{ahead, stopped, parsed};
-ghost use Rattle.cql_reader.specs.Tokens.{scan_from};
+ghost use Rattle.cql_reader.specs.Scanning.{scan_from};
 ghost use Rattle.cql_reader.specs.Coded.{ReadsDraft, IsInside, IsRead, rest_of, told};
-ghost use Rattle.cql_reader.specs.Reading.{Reads, reading};
+ghost use Rattle.cql_reader.specs.Judging.{Reads, reading};
 ghost use Rattle.cql_reader.specs.Views.{query_of};
 ghost use Rattle.cql_reader.specs.WellFormed.{IsWellFormed};
 

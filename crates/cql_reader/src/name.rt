@@ -15,7 +15,7 @@ pub struct Name {
 }
 
 impl Name {
-    ghost use Rattle.cql_reader.specs.Views.{name_of};
+    ghost use Rattle.cql_reader.specs.Names.{name_of};
 
     /// Makes the name of these bytes.
     pub fn new(bytes: &[u8]) -> Name

@@ -1,7 +1,8 @@
 //! Reads numbers.
 
 ghost use Rattle.std.specs.Prelude.{◌≡◌, ◌<◌, length, min, nat_abs, nat_eq, IsTrue};
-ghost use Rattle.cql_reader.specs.Lexis.{decimal, first_byte, number_of, capped};
+ghost use Rattle.cql_reader.specs.Lexis.{decimal, first_byte, number_of};
+ghost use Rattle.cql_reader.specs.Scanning.{capped};
 
 /// Cuts numbers off; it is outside the range of each place.
 const LIMIT: u64 = 2_199_023_255_552;

@@ -1,6 +1,6 @@
 //! Holds the syntax tree of a query: what its text says, before its names are looked up.
 use crate::name::Name;
-use values::{Aggregate, Compare, StreamOperator};
+use values::{Aggregate, Compare, Reach, StreamOperator};
 
 /// Names a column as a text does: by its name only, or with the name of its source in front.
 #[derive(Clone, Copy, Debug)]
@@ -34,16 +34,9 @@ pub enum Entries {
 /// Is the window on a stream.
 #[derive(Debug, Drop)]
 pub enum WrittenWindow {
-    /// Shows the rows of the instant itself.
-    Now,
-    /// Shows the rows of the instant and of as many instants before it as the number says, at most
-    /// 1,099,511,627,776.
-    Range(u64),
-    /// Shows what `Range` shows at the last multiple of the second number, the step, up to the
-    /// instant. Both are at most 1,099,511,627,776, and the step is at least 1.
-    RangeSlide(u64, u64),
-    /// Shows all rows so far: `[Range Unbounded]`, `[Rows Unbounded]`, or no window.
-    Unbounded,
+    /// Shows the rows of some instants. Its numbers are at most 1,099,511,627,776. No window and
+    /// `[Rows Unbounded]` show all instants, as `[Range Unbounded]` does.
+    Instants(Reach),
     /// Shows the last rows, 1 to 65,536 of them.
     Rows(u64),
     /// Shows the last rows, 1 to 65,536 of them, of those that are equal in the columns.

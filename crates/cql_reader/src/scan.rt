@@ -2,7 +2,7 @@
 
 ghost use Rattle.std.specs.Prelude.{◌≡◌, ◌+◌, ◌<◌, ◌≤◌, length, IfSome};
 ghost use Rattle.cql_reader.specs.Lexis.{token_at, symbol, comparison};
-ghost use Rattle.cql_reader.specs.Tokens.{scan_from};
+ghost use Rattle.cql_reader.specs.Scanning.{scan_from};
 ghost use Rattle.cql_reader.specs.Coded.{IsNext};
 ghost use Rattle.cql_reader.specs.declared.tokens.TokenKind.TheVariants as kinds;
 

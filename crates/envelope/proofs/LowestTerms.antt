@@ -3,7 +3,8 @@ use Rattle.std.proofs.Common.{ℕ, ◌+◌, ◌*◌, ◌/◌, ◌%◌, ◌<◌, 
 use Rattle.std.specs.Int.{IsGcd, ◌∣◌}
 use Rattle.std.proofs.Math.Nat.{mod-lt, mod-eq_of_lt, mul-add-mod_self_left, mul-lt-mul_of_pos_right, div-mul_cancel, div-add-mod', pos_of_dvd_of_pos, dvd-mul_right}
 use Rattle.std.proofs.lemmas.Nat.Gcd.{IsGcd-from_zero, IsGcd-from_mod, same_from_IsGcd}
-use Rattle.envelope.specs.Fraction.{Fraction, fraction, denominator, SameNumber}
+use Rattle.envelope.specs.Fraction.{Fraction, fraction, denominator}
+use Rattle.envelope.specs.Equal.{SameNumber}
 use Rattle.envelope.specs.FractionLaws.{eq_unscaled, denominator_of_fraction}
 use Rattle.envelope.specs.LowestTerms.{euclid, common_divisor, lowest_terms}
 

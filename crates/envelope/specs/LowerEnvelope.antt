@@ -1,3 +1,4 @@
+-- TO BELIEVE: the theorem rests on these definitions, and no proof can check them.
 -- Lower envelopes of a chart, and the slopes that are read off
 -- one (Chain: Babcock, Babu, Datar and Motwani, SIGMOD 2003).
 use Rattle.std.specs.Prelude.{ℕ, ◌-◌, ◌<◌, ◌≤◌, ◌≡◌, cond, nat_le, List, [], ◌∷◌, length, map, drop}
@@ -28,16 +29,6 @@ abbrev pub descent_over : List Point → ℕ → Fraction
 descent_over [] t = fraction 0 1
 descent_over (a ∷ []) t = fraction 0 1
 descent_over (a ∷ b ∷ points) t = cond (nat_le t b.t) (descent a b) (descent_over (b ∷ points) t)
-
--- that it is the segment above: it begins no later than the step
--- that follows the point at the place i, and ends no earlier
-pub record HasSegmentAbove (chart envelope : List Point) (i : ℕ) : Type 0 where
-  pub place : ℕ
-  pub inside : suc place < length envelope
-  pub begins : (at envelope place).t ≤ (at chart i).t
-  pub ends : (at chart (suc i)).t ≤ (at envelope (suc place)).t
-  pub says : descent_over envelope (at chart (suc i)).t
-      ≡ descent (at envelope place) (at envelope (suc place))
 
 -- each operator's slope: the descent of the segment above its step, in lowest terms
 abbrev pub slopes_along : List Point → List Point → List Fraction

@@ -1,3 +1,4 @@
+-- TO BELIEVE: the theorem rests on these definitions, and no proof can check them.
 -- A fraction's lowest terms, and how it is shown.
 use Rattle.std.specs.Prelude.{ℕ, ◌/◌, ◌%◌, List, ◌++◌, zero, suc, codes}
 use Rattle.std.specs.Fmt.{decimal}

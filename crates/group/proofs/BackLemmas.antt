@@ -12,9 +12,9 @@ use Rattle.std.proofs.lemmas.Int.{ints}
 use Rattle.std.proofs.lemmas.Map.Keys.{sorted_tail}
 use Rattle.std.proofs.lemmas.Map.Views.{All-values-insert_entry, All-values-set_value, All-map-remove_entry, IfSome-lookup_from_All}
 use Rattle.row_bags.proofs.SpreadLemmas.{lookup-below}
-use Rattle.values.specs.Bag.{IsExactOrder}
+use Rattle.values.specs.Orders.{IsExactOrder}
 use Rattle.values.specs.Row.{Row, value_cmp}
-use Rattle.values.specs.Value.{IsAnswerValue}
+use Rattle.values.specs.Ranges.{IsAnswerValue}
 use Rattle.values.proofs.Order.{value_order}
 use Rattle.values.specs.declared.resolved.ListItem.{ListItem}
 use Rattle.values.specs.declared.resolved.ListItem.TheVariants.{Key}

@@ -22,7 +22,7 @@ use Rattle.column.specs.Rows.{IsTable, column_of as lane_of}
 use Rattle.values.specs.Condition.{field}
 use Rattle.values.specs.Resolved.{column_of}
 use Rattle.values.specs.Row.{Row, value_at}
-use Rattle.values.specs.Value.{IsAnswerValue}
+use Rattle.values.specs.Ranges.{IsAnswerValue}
 use Rattle.values.specs.declared.resolved.SourceColumn.{SourceColumn}
 use Rattle.values.specs.declared.resolved.ListItem.{ListItem}
 use Rattle.lane_kernels.specs.Lanes.{IsWithin}

@@ -12,7 +12,7 @@ use Rattle.std.specs.List.Sorted.{IsStrictlySortedBy}
 use Rattle.std.proofs.lemmas.Map.{lookup-set_value, lookup-remove_entry, keys-set_value}
 use Rattle.std.proofs.lemmas.Map.Keys.{IsDistinct-from_sorted}
 use Rattle.std.proofs.lemmas.Int.{ints}
-use Rattle.values.specs.Bag.{IsExactOrder}
+use Rattle.values.specs.Orders.{IsExactOrder}
 use Rattle.values.specs.Row.{Row, same_row, value_cmp}
 use Rattle.values.proofs.Order.{value_order}
 use Rattle.values.specs.declared.resolved.ListItem.{ListItem}

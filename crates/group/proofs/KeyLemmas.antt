@@ -11,7 +11,7 @@ use Rattle.std.specs.List.Sorted.{IsStrictlySortedBy}
 use Rattle.std.proofs.lemmas.Map.{lookup-set_value, lookup-remove_entry}
 use Rattle.std.proofs.lemmas.Map.Keys.{IsDistinct-from_sorted}
 use Rattle.std.proofs.lemmas.Cmp.{on_total, tied_itself}
-use Rattle.values.specs.Bag.{IsExactOrder}
+use Rattle.values.specs.Orders.{IsExactOrder}
 use Rattle.values.specs.Row.{Row, row_cmp, same_row, value_at, value_cmp}
 use Rattle.values.proofs.Order.{row_order}
 use Rattle.values.specs.declared.resolved.ListItem.{ListItem}

@@ -9,7 +9,8 @@ use Rattle.std.proofs.lemmas.Int.{ints}
 use Rattle.lane_kernels.specs.Lanes.{IsWithin}
 use Rattle.lane_kernels.proofs.SumLemmas.{within_add, within_neg}
 use Rattle.values.specs.Row.{Row, value_cmp}
-use Rattle.values.specs.Value.{IsAnswerValue, IsAnswerNumber, answer_max}
+use Rattle.values.specs.Value.{answer_max}
+use Rattle.values.specs.Ranges.{IsAnswerValue, IsAnswerNumber}
 use Rattle.values.specs.declared.resolved.ListItem.{ListItem}
 use Rattle.group.specs.Cells.{Held, held_cmp, Values, count_of, values_by, TallyState, tally_zero, tally_by, tally_after, tallies_after, keeps, number_of, signed_by, CellState, cell_zero, cell_after, showing, TallyRoom, CellRoom, ReadsInRange}
 use Rattle.op_queue.specs.declared.item.Item as queue

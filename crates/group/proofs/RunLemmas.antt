@@ -13,7 +13,8 @@ use Rattle.values.specs.Row.{Row}
 use Rattle.values.specs.declared.resolved.ListItem.{ListItem}
 use Rattle.std.specs.List.{All}
 use Rattle.std.proofs.lemmas.List.Elements.{All-append, All-cons}
-use Rattle.op_queue.specs.Entries.{Entry, IsForward, RowAt, TickAt, instant_of}
+use Rattle.op_queue.specs.Entries.{Entry, RowAt, TickAt}
+use Rattle.op_queue.specs.Forward.{IsForward, instant_of}
 use Rattle.op_queue.specs.declared.item.Item.{Item}
 use Rattle.op_queue.specs.declared.item.Item.TheVariants.{Rows, Tick}
 use Rattle.group.specs.Groups.{GroupBy}

@@ -2,7 +2,7 @@
 use Rattle.std.specs.Prelude.{ℕ, ◌<◌, ℤ, pos, ◌+ℤ◌, Bool, not, Option, List, [], ◌∷◌, map, length}
 use Rattle.std.specs.Prelude.{get_or, slice_index_or, true, All, fold}
 use Rattle.values.specs.Row.{Row}
-use Rattle.values.specs.Value.{IsAnswerValue}
+use Rattle.values.specs.Ranges.{IsAnswerValue}
 use Rattle.values.specs.Condition.{field}
 use Rattle.values.specs.Resolved.{column_of}
 use Rattle.values.specs.declared.resolved.SourceColumn.{SourceColumn}

@@ -10,7 +10,8 @@ use Rattle.std.specs.Ordering.{int_eq}
 use Rattle.std.specs.declared.cmp.Ordering.{Ordering}
 use Rattle.arrayvec.specs.ArrayVec.{ArrayVec}
 use Rattle.values.specs.Row.{Row, row_cmp, value_cmp, value_at}
-use Rattle.values.specs.Value.{clamp_answer, IsAnswerValue}
+use Rattle.values.specs.Value.{clamp_answer}
+use Rattle.values.specs.Ranges.{IsAnswerValue}
 use Rattle.values.specs.Condition.{field}
 use Rattle.values.specs.Resolved.{column_of}
 use Rattle.values.specs.declared.resolved.Aggregate.{Aggregate}

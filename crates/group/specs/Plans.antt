@@ -1,6 +1,7 @@
 -- A tick in two steps: first it is found out what each touched
 -- group shows from then on, then the groups show it.
-use Rattle.std.specs.Prelude.{◌≡◌, Bool, true, cond, Option, Some, None, List, [], ◌∷◌, map, fold, length}
+use Rattle.std.specs.Prelude.{◌≡◌, Bool, true, cond, Option, Some, None, List, [], ◌∷◌, map, fold}
+use Rattle.std.specs.Prelude.{length}
 use Rattle.std.specs.Option.{is_some}
 use Rattle.std.specs.Map.{set_value, remove_entry}
 use Rattle.std.specs.BTreeMap.{is_at}

@@ -10,7 +10,7 @@ ghost use Rattle.std.specs.BTreeMap as tree;
 ghost use Rattle.std.specs.Map.{set_value, values_of};
 ghost use Rattle.std.specs.List.{All, list_any};
 ghost use Rattle.values.specs.Row.{value_cmp};
-ghost use Rattle.values.specs.Value.{IsAnswerValue};
+ghost use Rattle.values.specs.Ranges.{IsAnswerValue};
 ghost use Rattle.lane_kernels.specs.Lanes.{IsWithin};
 ghost use Rattle.group.specs.Cells.{count_of, one_more, one_less, values_by, number_of, keeps};
 ghost use Rattle.group.specs.Cells.{signed_by, tally_zero, tally_by, tallies_after};

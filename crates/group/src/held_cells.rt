@@ -1,7 +1,7 @@
 //! The groups by key, in as little room as their keys need.
 
-ghost use Rattle.std.specs.Prelude.{◌≡◌, ◌≤◌, ◌<◌, ◌^◌, ◌↔◌, ◌++◌, [], length, fold, take, true, false};
-ghost use Rattle.std.specs.Prelude.{IfErr, IfOk, IsTrue, OnErr, OnOk};
+ghost use Rattle.std.specs.Prelude.{◌≡◌, ◌≤◌, ◌<◌, ◌^◌, ◌↔◌, ◌++◌, [], length, fold, take, true};
+ghost use Rattle.std.specs.Prelude.{false, IfErr, IfOk, IsTrue, OnErr, OnOk};
 ghost use Rattle.std.specs.List.{list_any};
 ghost use Rattle.std.specs.BTreeMap.{is_at};
 ghost use Rattle.std.specs.BTreeSet.{insert_key};
@@ -13,7 +13,7 @@ ghost use Rattle.group.specs.Turns.{cell_of, shown_in, near_at, out, shown_after
 ghost use Rattle.group.specs.Turns.{CountsUpTo, KeepsRoom};
 ghost use Rattle.group.specs.Groups.{no_columns};
 ghost use Rattle.group.specs.Keys.{AreWhole};
-ghost use Rattle.op_queue.specs.Entries.{IsForward};
+ghost use Rattle.op_queue.specs.Forward.{IsForward};
 ghost use Rattle.op_queue.specs.Queues.{HasGained, HasGrown};
 ghost use Rattle.op_queue.specs.declared.item.Item.TheVariants.{Tick};
 ghost use Rattle.group.specs.Runs.{changes_at, state_with};
@@ -212,8 +212,8 @@ impl HeldCells {
     }
 
     /// Takes the tick of an instant. The touched groups put out what they have to, in the order of
-    /// their keys, then comes the tick. Each group shows its row; one without a row is dropped. Then
-    /// none is touched.
+    /// their keys, then comes the tick. Each group shows its row; one without a row is dropped.
+    /// Then none is touched.
     ///
     /// # Errors
     /// `AllocError` when out of memory; then the groups and the touched keys are as they were.

@@ -19,7 +19,7 @@ ghost use Rattle.op_queue.specs.Flat.{with_signed};
 ghost use Rattle.group.specs.Runs.{changes_at, state_with};
 ghost use Rattle.group.specs.Plans.{plans_at, put_all, put_one, without_first, Begun};
 ghost use Rattle.group.specs.Groups.{no_columns};
-ghost use Rattle.op_queue.specs.Entries.{IsForward};
+ghost use Rattle.op_queue.specs.Forward.{IsForward};
 ghost use Rattle.op_queue.specs.Queues.{HasGained, HasGrown};
 ghost use Rattle.op_queue.specs.declared.item.Item.TheVariants.{Tick};
 ghost use Rattle.group.specs.Touched.{TouchedMore};
@@ -268,8 +268,8 @@ impl<const N: usize> Keyed<N> {
     }
 
     /// Takes the tick of an instant. The touched groups put out what they have to, in the order of
-    /// their keys, then comes the tick. Each group shows its row; one without a row is dropped. Then
-    /// none is touched.
+    /// their keys, then comes the tick. Each group shows its row; one without a row is dropped.
+    /// Then none is touched.
     ///
     /// What needs memory comes first: only then do the groups change.
     ///
@@ -538,8 +538,8 @@ fn forget<const N: usize>(touched: &mut Vec<Touch<N>>, alloc: Global)
     }
 }
 
-/// Takes the tick of an instant of the groups with these keys, in their order. They put out what they
-/// have to, then comes the tick. Each group shows its row; one without a row is dropped.
+/// Takes the tick of an instant of the groups with these keys, in their order. They put out what
+/// they have to, then comes the tick. Each group shows its row; one without a row is dropped.
 ///
 /// # Errors
 /// `AllocError` when out of memory; then the groups are as they were.
@@ -647,8 +647,8 @@ fn put_tick<const N: usize>(
     Ok(plans)
 }
 
-/// Emits what a tick of the groups with these keys puts out, in their order. Returns what each is to
-/// show then, as `Cell::plan` does.
+/// Emits what a tick of the groups with these keys puts out, in their order. Returns what each is
+/// to show then, as `Cell::plan` does.
 fn plan_all<const N: usize>(
     cells: &Slots<N>,
     alloc: Global,

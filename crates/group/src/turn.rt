@@ -197,6 +197,13 @@ impl Model for GroupChange {
 }
 
 impl GroupChange {
+    /// Returns the change of a turn after which each group shows what it showed. Takes no memory.
+    pub fn none(alloc: Global) -> GroupChange
+        ensures { result ≡ [] }
+    {
+        GroupChange::new(JoinedLists::new(alloc), ShownLists::new(alloc))
+    }
+
     fn new(keys: JoinedLists<Value>, rows: ShownLists) -> GroupChange
         requires { ListShown keys rows (shown_of keys rows) }
         ensures { result ≡ shown_of keys rows }
@@ -387,8 +394,7 @@ fn nothing(alloc: Global) -> (Vec<Item>, GroupChange)
     ensures outputs { result.0.items ≡ [] }
     ensures change { result.1 ≡ [] }
 {
-    let change = GroupChange::new(JoinedLists::new(alloc), ShownLists::new(alloc));
-    (Vec::new(alloc), change)
+    (Vec::new(alloc), GroupChange::none(alloc))
 }
 
 /// Returns the outputs and the change of a turn, from only its item and excerpt.

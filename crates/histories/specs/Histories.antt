@@ -1,5 +1,6 @@
+-- TO BELIEVE: the theorem rests on these definitions, and no proof can check them.
 -- Histories: accepted commands, each of a seat and with its reply.
-use Rattle.std.specs.Prelude.{◌≡◌, ◌==◌, ℕ, ◌+◌, List, [], ◌∷◌, if◌then◌else◌, Some, slice_get}
+use Rattle.std.specs.Prelude.{◌≡◌, ◌==◌, ℕ, ◌+◌, List, [], ◌∷◌, if◌then◌else◌}
 use Rattle.reference.specs.Machine.{Machine}
 use Rattle.reference.specs.Commands.{Command}
 use Rattle.reference.specs.Replies.{Reply}
@@ -33,8 +34,3 @@ abbrev pub own : ℕ → ℕ → List Entry → List Told
 own seat n [] = []
 own seat n (e ∷ es) = if e.seat
     == seat then (record { number = n; entry = e } ∷ own seat (n + 1) es) else own seat (n + 1) es
-
--- A RECEIPT IS OF ITS ENTRY, where the first entry of the list has the number `first`: the entry
--- of its number is there, and is the one that it tells. Of a lower number nothing is said
-pub record IsOf (first : ℕ) (es : List Entry) (r : Told) : Type 0 where
-  pub entry : (k : ℕ) → r.number ≡ first + k → slice_get es k ≡ Some r.entry

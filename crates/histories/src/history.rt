@@ -1,6 +1,6 @@
 //! Compares receipts with a history.
 ghost use Rattle.std.specs.Prelude.{◌↔◌, All, IsTrue};
-ghost use Rattle.histories.specs.Histories.{IsOf};
+ghost use Rattle.histories.specs.Receipts.{IsOf};
 
 use crate::entry::Entry;
 use crate::receipt::Receipt;

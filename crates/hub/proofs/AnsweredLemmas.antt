@@ -8,7 +8,7 @@ use Rattle.reference.specs.Commands.{Declare, Register, Append, Heartbeat, Take,
 use Rattle.reference.specs.Replies.{Reply, Number, Done, Rows}
 use Rattle.reference.specs.Steps.{AreNext}
 use Rattle.reference.specs.World.{Does, append_step, declare_step, drop_step, handed, heartbeat_step, register_step}
-use Rattle.stream_store.specs.Closing.{QueuesGain}
+use Rattle.stream_store.specs.Gains.{QueuesGain}
 use Rattle.laws_engine.specs.Calls.{appended, heartbeat_taken, declared, dropped}
 use Rattle.laws_engine.specs.Engines.{PlainEngine, answers_in, remains_at, world_of}
 use Rattle.leases.specs.Queues.{LeavesQueues, LengthensQueues}

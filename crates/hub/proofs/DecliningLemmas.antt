@@ -5,7 +5,8 @@ use Rattle.reference.specs.declared.fault.Fault.{Fault}
 use Rattle.reference.specs.declared.fault.Fault.TheVariants.{Query, BadName, NameTaken, BadColumns, TooMany, UnknownStream, UnknownQuery, BadWidth, ValueRange, InstantRange, Late, Backward, Leap, StreamFull, BadLimit, Broken, UnknownLease, Stranger, TooManyLeases, HistoryFull, OutOfMemory, Foreign}
 use Rattle.hub.specs.Calls.{Refused}
 use Rattle.hub.specs.Seats.{PlainSeat, reach}
-use Rattle.hub.specs.Steps.{Barred, Declines, HasRoom, PlainLocked, engine_at, next_number}
+use Rattle.hub.specs.Steps.{Declines, HasRoom, PlainLocked, engine_at, next_number}
+use Rattle.hub.specs.Workers.{Barred}
 
 pub barred_declines : (l : PlainLocked) (s : PlainSeat) (c : Command) (f : Fault) → Barred l s f → Declines l s c f
 barred_declines l s c (Query x) h = absurd h

@@ -8,7 +8,10 @@ use Rattle.std.proofs.lemmas.List.Folds.{sum_by-replicate}
 use Rattle.std.proofs.lemmas.List.Sums.{count_by-le-length, sum_by-cons}
 use Rattle.std.proofs.lemmas.Option.{get_or_from_slice_get, slice_get_within}
 use Rattle.histories.specs.Histories.{Entry, Told, own}
-use Rattle.hub.specs.Ledgers.{Agrees, IsAccount, IsLedger, PlainAccount, PlainLedger, cleared, cleared_of, due_at, fresh, noted, noted_at, numbers_from, numbers_of, opened_for, settled_of, times_due}
+use Rattle.hub.specs.Ledgers.{Agrees, IsAccount, IsLedger, PlainAccount, PlainLedger, cleared}
+use Rattle.hub.specs.Ledgers.{cleared_of, due_at, noted, noted_at, numbers_from, numbers_of}
+use Rattle.hub.specs.Ledgers.{settled_of, times_due}
+use Rattle.hub.specs.LedgerViews.{fresh, opened_for}
 use Rattle.hub.specs.Seats.{PlainSeat, by_number, held, own_reach, receipts_from, told_at}
 use Rattle.hub.specs.declared.settled.Settled.{Settled}
 use Rattle.hub.proofs.PlaceLemmas.{from_passes, one_if}

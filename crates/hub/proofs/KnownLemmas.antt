@@ -4,7 +4,10 @@ use Rattle.std.specs.Prelude.{IsSome, is_some}
 use Rattle.reference.specs.Machine.{Machine}
 use Rattle.reference.specs.Commands.{Command}
 use Rattle.histories.specs.Histories.{Told}
-use Rattle.hub.specs.Steps.{Accepted, AcceptedNamed, Declined, DeclinedNamed, ForgetsAfter, ForgetsWhenDue, IsReplayed, PlainLocked, HasEnded, Lends, Rests, SeesPeek, Settles, Spurned, SpurnedNamed, Took, TookNamed, Withholds, engine_at}
+use Rattle.hub.specs.Steps.{Accepted, AcceptedNamed, Declined, DeclinedNamed, ForgetsAfter}
+use Rattle.hub.specs.Steps.{ForgetsWhenDue, IsReplayed, PlainLocked, Rests, Settles, Spurned}
+use Rattle.hub.specs.Steps.{SpurnedNamed, Took, TookNamed, Withholds, engine_at}
+use Rattle.hub.specs.Workers.{HasEnded, Lends, SeesPeek}
 use Rattle.hub.specs.Seats.{PlainSeat}
 use Rattle.reference.specs.declared.fault.Fault.{Fault}
 use Rattle.turn.specs.declared.turns.Turn.{Turn}

@@ -5,7 +5,8 @@ use Rattle.std.proofs.lemmas.Option.{slice_get_past, slice_get_read, slice_get-m
 use Rattle.std.specs.Option.{option_map}
 use Rattle.std.specs.Prelude.{Vec, vec_capacity, vec_len}
 use Rattle.std.specs.declared.alloc.Global.{Global}
-use Rattle.hub.specs.Ledgers.{PlainAccount, PlainLedger, account_in, cleared, noted, noted_at}
+use Rattle.hub.specs.Ledgers.{PlainAccount, PlainLedger, cleared, noted, noted_at}
+use Rattle.hub.specs.LedgerViews.{account_in}
 use Rattle.hub.specs.declared.ledger.Account.{Account}
 use Rattle.hub.specs.declared.settled.Settled.{Settled}
 

@@ -13,6 +13,7 @@ mod OpeningLemmas
 mod AcceptingLemmas
 mod KnownLemmas
 mod ReadyLemmas
+mod NumberLemmas
 mod MeasureLemmas
 pub mod SendLemmas
 pub mod SizeLemmas

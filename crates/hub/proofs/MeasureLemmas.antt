@@ -5,8 +5,8 @@ use Rattle.std.specs.Option.{option_map_or}
 use Rattle.std.proofs.lemmas.List.{length-map}
 use Rattle.std.proofs.lemmas.List.Sums.{sum_by_more}
 use Rattle.std.proofs.lemmas.Option.{slice_get_cases}
-use Rattle.names.specs.Views.{names_of}
-use Rattle.cql_reader.specs.Views.{name_of}
+use Rattle.names.specs.Names.{names_of}
+use Rattle.cql_reader.specs.Names.{name_of}
 use Rattle.cql_reader.specs.declared.name.Name.{Name}
 use Rattle.reference.specs.Machine.{Registered}
 use Rattle.hub.specs.Measures.{counted, values_of_query}

@@ -5,7 +5,8 @@ use Rattle.std.proofs.lemmas.Bool.Decides.{nat_tests}
 use Rattle.std.proofs.lemmas.List.{append_assoc, drop_more, length-map, length-take-le, map-append, set_at, take_more}
 use Rattle.std.proofs.Math.Seq.{get_or-append_seam}
 use Rattle.histories.specs.Histories.{Told}
-use Rattle.hub.specs.Seats.{IsRisingFrom, PlainSeat, held, receipts_from, times_told, told_at}
+use Rattle.hub.specs.Seats.{PlainSeat, held, receipts_from, times_told, told_at}
+use Rattle.hub.specs.Rising.{IsRisingFrom}
 use Rattle.hub.proofs.Places.{places_at, told_below}
 
 -- one where the test holds

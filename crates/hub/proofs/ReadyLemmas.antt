@@ -1,5 +1,5 @@
 -- What a look at an engine shows that runs no turn.
-use Rattle.std.proofs.Common.{◌≡◌, ℕ, Bool, true, false, ◌&&◌, ◌||◌, not, is_some, [], ◌∷◌, length, None, Some, Result, Ok, Err, refl, subst, sym}
+use Rattle.std.proofs.Common.{◌≡◌, ℕ, Bool, true, false, ◌&&◌, ◌||◌, not, is_some, [], ◌∷◌, length, None, Result, Ok, refl, subst, sym}
 use Rattle.std.specs.Prelude.{nat_le}
 use Rattle.names.specs.Faults.{first_of as first_fault}
 use Rattle.reference.specs.declared.fault.Fault.{Fault}
@@ -10,25 +10,15 @@ use Rattle.laws_engine.specs.Engines.{PlainEngine}
 use Rattle.reference.specs.World.{drain_fault}
 use Rattle.leases.specs.ByQuery.{RunsByQuery}
 use Rattle.leases.specs.Drains.{RunsTurns, as_drained}
-use Rattle.leases.specs.Turns.{HasReady, lease_fault}
+use Rattle.leases.specs.Turns.{lease_fault}
 use Rattle.laws_engine.specs.Promises.{HasAllWaiting}
 use Rattle.leases.specs.declared.leased.Leased.TheVariants.{Idle}
 use Rattle.leases.specs.declared.limits.TheConstants.{LEASE_NUMBERS, MAX_LEASES}
 use Rattle.std.specs.Prelude.{IsTrue}
 use Rattle.leases.specs.Openings.{opening_in}
 use Rattle.histories.specs.Histories.{Replays}
-use Rattle.hub.specs.Steps.{Hands, IsReady, IsReplayed, PlainLocked, SeesReady, engine_at, with_engine}
-
-pub none_ready : (e : PlainEngine) → first_of e.slots ≡ None → HasReady e → ⊥
-none_ready e none ready =
-    let h = subst (λ o. is_some o ≡ true) none ready in
-    absurd (cc)
-
-pub no_fault : (old new : PlainEngine) (f : Fault) → f ≡ BadLimit → RunsTurns old 1 (Err f) new → ⊥
-no_fault old new f is runs =
-    let h : RunsTurns old 1 (Err BadLimit) new = subst (λ x. RunsTurns old 1 (Err x) new) is runs in
-    let k : None ≡ Some BadLimit = h.0 in
-    absurd (cc)
+use Rattle.hub.specs.Steps.{Hands, IsReplayed, PlainLocked, engine_at, with_engine}
+use Rattle.hub.specs.Workers.{IsReady, SeesReady}
 
 -- a look that found something ready
 pub ready_at : (l : PlainLocked) (r : Bool) → SeesReady l r → IsTrue r → (x : PlainLocked) × IsReady x

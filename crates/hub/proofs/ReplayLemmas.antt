@@ -4,7 +4,8 @@ use Rattle.reference.specs.Commands.{Command}
 use Rattle.reference.specs.Machine.{Machine}
 use Rattle.histories.specs.Histories.{Entry, Replays, Told}
 use Rattle.reference.specs.Replies.{Reply}
-use Rattle.hub.specs.Seats.{IsRisingFrom, held}
+use Rattle.hub.specs.Seats.{held}
+use Rattle.hub.specs.Rising.{IsRisingFrom}
 use Rattle.hub.proofs.PlaceLemmas.{rising_push}
 use Rattle.reference.specs.Steps.{IsStep}
 

@@ -17,6 +17,7 @@ use Rattle.run_queue.specs.contracts.slots.Slot as slot
 use Rattle.run_queue.specs.contracts.queue.RunQueue as run_queue
 use Rattle.name_table.specs.contracts.table.NameTable as name_table
 use Rattle.leases.specs.contracts.reader.WindowReader as reader
+use Rattle.leases.specs.contracts.readers.Readers as readers
 use Rattle.leases.specs.contracts.pace.Pace as pace
 use Rattle.column.specs.contracts.mask.Mask as mask
 use Rattle.column.specs.contracts.column.Column as column
@@ -34,7 +35,7 @@ use Rattle.windows.specs.contracts.window.WindowExcerpt as window_excerpt
 use Rattle.windows.specs.contracts.instants.InstantWindow as instants
 use Rattle.windows.specs.contracts.instants.InstantExcerpt as instant_excerpt
 use Rattle.windows.specs.contracts.latest.LatestWindow as latest
-use Rattle.windows.specs.contracts.flat_rows.FlatRows as flat_rows
+use Rattle.windows.specs.contracts.row_deque.RowDeque as row_deque
 use Rattle.windows.specs.contracts.row_table.RowTable as row_table
 use Rattle.windows.specs.contracts.fallen_rows.FallenRows as fallen_rows
 use Rattle.join.specs.contracts.state.Join as join
@@ -103,6 +104,9 @@ names_send = search (sendable, crosses, maps.crosses) depth 20
 pub reader_send : IsSend reader.the_row
 reader_send = search (sendable, crosses) depth 20
 
+pub readers_send : IsSend readers.the_row
+readers_send = search (sendable, crosses, reader_send) depth 20
+
 pub mask_send : IsSend mask.the_row
 mask_send = search (sendable, crosses) depth 20
 
@@ -139,14 +143,14 @@ row_list_send = search (sendable, crosses, value_send) depth 30
 pub delta_send : IsSend delta.the_row
 delta_send = search (sendable, crosses, value_send) depth 30
 
-pub flat_rows_send : IsSend flat_rows.the_row
-flat_rows_send = search (sendable, crosses, value_send) depth 30
+pub row_deque_send : IsSend row_deque.the_row
+row_deque_send = search (sendable, crosses, value_send) depth 30
 
 pub instants_send : IsSend instants.the_row
-instants_send = search (sendable, crosses, flat_rows_send) depth 40
+instants_send = search (sendable, crosses, row_deque_send) depth 40
 
 pub latest_send : IsSend latest.the_row
-latest_send = search (sendable, crosses, maps.crosses, value_send, flat_rows_send) depth 40 fits 100000
+latest_send = search (sendable, crosses, maps.crosses, value_send, row_deque_send) depth 40 fits 100000
 
 pub window_send : IsSend window.the_row
 window_send = search (sendable, crosses, instants_send, latest_send) depth 30
@@ -328,7 +332,7 @@ pub undropped_send : IsSend undropped.the_row
 undropped_send = search (sendable, crosses, names_send, row_limit_send) depth 20
 
 pub engine_state_send : IsSend engine_state.the_row
-engine_state_send = declared_send engine_state.the_type (search (sendable, crosses) depth 20, (streams_send, (undropped_send, (search (sendable, crosses, registration_send) depth 12, (search (sendable, crosses, remains_send) depth 12, (search (sendable, crosses, reader_send) depth 12, (search (sendable, crosses, turn_send) depth 12, (search sendable depth 12, (queue_send, (search sendable depth 12, (search sendable depth 12, tt)))))))))))
+engine_state_send = declared_send engine_state.the_type (search (sendable, crosses) depth 20, (streams_send, (undropped_send, (search (sendable, crosses, registration_send) depth 12, (search (sendable, crosses, remains_send) depth 12, (readers_send, (search (sendable, crosses, turn_send) depth 12, (search sendable depth 12, (queue_send, (search sendable depth 12, (search sendable depth 12, tt)))))))))))
 
 pub engine_send : IsSend engine.the_row
 engine_send = view_send engine_inside.the_row _ _ engine.the_view _ (declared_send engine_inside.the_type (engine_state_send, tt))

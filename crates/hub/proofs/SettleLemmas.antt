@@ -3,7 +3,8 @@ use Rattle.std.proofs.Common.{◌≡◌, ◌∙◌, ℕ, ◌+◌, ◌≤◌, Boo
 use Rattle.std.proofs.lemmas.Bool.{cases_lt, cond-true}
 use Rattle.std.proofs.lemmas.Bool.Decides.{nat_tests}
 use Rattle.std.proofs.lemmas.List.Elements.{All-cons, All-head, All-nil, All-tail}
-use Rattle.histories.specs.Histories.{Entry, IsOf, Told, own}
+use Rattle.histories.specs.Histories.{Entry, Told, own}
+use Rattle.histories.specs.Receipts.{IsOf}
 use Rattle.hub.specs.Seats.{PlainSeat, receipts_from}
 use Rattle.hub.specs.Ledgers.{Agrees, IsLedger, PlainAccount, PlainLedger, numbers_from, numbers_of}
 use Rattle.hub.specs.declared.settled.Settled.{Settled}

@@ -1,12 +1,10 @@
+-- TO BELIEVE: the theorem rests on these definitions, and no proof can check them.
 -- What a hub keeps of each seat's calls: which are settled, and the numbers of the others.
-use Rattle.std.specs.Prelude.{◌≡◌, ◌==◌, ℕ, ◌+◌, ◌≤◌, ◌<◌, nat_le, List, [], ◌∷◌, ◌++◌, length, map}
-use Rattle.std.specs.Prelude.{Option, None, Some, replicate, set, slice_get, if◌then◌else◌}
-use Rattle.std.specs.Vec.{vec_capacity, vec_len}
+use Rattle.std.specs.Prelude.{◌≡◌, ◌==◌, ℕ, ◌+◌, ◌≤◌, nat_le, List, [], ◌∷◌, ◌++◌, length, map}
+use Rattle.std.specs.Prelude.{Option, None, Some, set, slice_get, if◌then◌else◌}
 use Rattle.std.specs.List.{sum_by}
 use Rattle.histories.specs.Histories.{Entry, Told, own}
-use Rattle.hub.specs.Seats.{PlainSeat, by_number, own_reach, receipts_from, unsettled}
-use Rattle.hub.specs.declared.ledger.Account.{Account}
-use Rattle.hub.specs.declared.ledger.Ledger.{Ledger}
+use Rattle.hub.specs.Seats.{PlainSeat, by_number, own_reach, receipts_from}
 use Rattle.hub.specs.declared.settled.Settled.{Settled}
 
 -- of one seat: which of its calls are settled, and the numbers of those that are due, in order
@@ -14,40 +12,12 @@ pub record PlainAccount : Type 0 where
   pub settled : Settled
   pub due : List ℕ
 
-abbrev pub account_in : Account → PlainAccount
-account_in a = record { settled = a.settled; due = a.due.items }
-
 -- of all seats, by their numbers; how many calls of other hubs' seats were accepted;
 -- how many calls are settled
 pub record PlainLedger : Type 0 where
   pub accounts : List PlainAccount
   pub strangers : ℕ
   pub settled : ℕ
-
--- not unfolded, so that what is said of a ledger stays short
-unfoldable pub ledger_in : Ledger → PlainLedger
-ledger_in l = record {
-  accounts = map account_in l.accounts.items;
-  strangers = l.strangers;
-  settled = l.settled;
-}
-
--- of a seat that was just opened
-abbrev pub fresh : PlainAccount
-fresh = record { settled = unsettled; due = [] }
-
--- and of all seats, by their number
-abbrev pub opened_for : ℕ → PlainLedger
-opened_for seats = record {
-  accounts = replicate seats fresh;
-  strangers = 0;
-  settled = 0;
-}
-
--- there is room for one number more of a seat
-pub record HasPlace (l : Ledger) (seat : ℕ) : Type 0 where
-  pub room : (a : Account) → slice_get l.accounts.items seat ≡ Some a
-      → vec_len a.due < vec_capacity a.due
 
 -- A CALL OF THIS NUMBER IS ACCEPTED of a seat: it is due, or the seat is of another hub
 abbrev pub noted_at : PlainLedger → ℕ → ℕ → Option PlainAccount → PlainLedger

@@ -1,8 +1,12 @@
 pub mod Seats
+pub mod Rising
 pub mod Ledgers
+pub mod LedgerViews
 pub mod Audits
 pub mod Calls
+pub mod EngineCalls
 pub mod Reached
 pub mod Steps
+pub mod Workers
 pub mod Tries
 pub mod Measures

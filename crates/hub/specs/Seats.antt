@@ -1,6 +1,7 @@
+-- TO BELIEVE: the theorem rests on these definitions, and no proof can check them.
 -- Seats and their receipts.
 use Rattle.std.specs.Prelude.{◌≡◌, ℕ, ◌+◌, ◌≤◌, ◌<◌, nat_le, nat_lt, List, [], ◌∷◌, length, All}
-use Rattle.std.specs.Prelude.{count_by, ◌==◌, if◌then◌else◌, max, ⊤}
+use Rattle.std.specs.Prelude.{count_by, ◌==◌, if◌then◌else◌, max}
 use Rattle.histories.specs.Histories.{Entry, Told, own}
 use Rattle.hub.specs.declared.settled.Settled.{Settled}
 
@@ -32,11 +33,6 @@ own_reach s = max s.settled.until (held s.receipts)
 -- one more than the greatest number that the seat settled, holds or has learnt
 abbrev pub reach : PlainSeat → ℕ
 reach s = max (own_reach s) s.learnt
-
--- THE RECEIPTS RISE: the number of each is above those of all before it, and at or above n
-abbrev pub IsRisingFrom : ℕ → List Told → Type 0
-IsRisingFrom n [] = ⊤
-IsRisingFrom n (r ∷ rs) = (n ≤ r.number) × IsRisingFrom (r.number + 1) rs
 
 -- the receipts of numbers from the n-th on
 abbrev pub receipts_from : ℕ → List Told → List Told

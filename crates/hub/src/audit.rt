@@ -3,7 +3,8 @@ ghost use Rattle.std.specs.Prelude.{◌≡◌, ◌<◌, ◌+◌, ◌^◌, ◌↔
 ghost use Rattle.std.specs.Prelude.{length};
 ghost use Rattle.histories.specs.Histories as histories;
 ghost use Rattle.hub.specs.Audits.{IsAccounted, alone};
-ghost use Rattle.hub.specs.Ledgers.{Agrees, IsLedger, PlainLedger, ledger_in, numbers_of};
+ghost use Rattle.hub.specs.Ledgers.{Agrees, IsLedger, PlainLedger, numbers_of};
+ghost use Rattle.hub.specs.LedgerViews.{ledger_in};
 ghost use Rattle.hub.specs.Seats.{IsAudited, PlainSeat, unsettled};
 
 use crate::ledger::Ledger;
@@ -56,7 +57,7 @@ fn have_numbers(receipts: &[Receipt], numbers: &[u64]) -> bool
 
 /// Returns whether the seat agrees with the hub. The first entry has the number `first`. Takes no
 /// memory, and looks only at the seat's own entries.
-#[tactic(auto, unfolding(crate::specs::Ledgers::ledger_in))]
+#[tactic(auto, unfolding(crate::specs::LedgerViews::ledger_in))]
 pub(crate) fn agrees(ledger: &Ledger, history: &[Entry], first: u64, seat: &Seat) -> bool
     requires { IsLedger (ledger_in ledger.now) first history.now }
     ensures { IsTrue result ↔ Agrees (ledger_in ledger.now) first history.now seat.now }

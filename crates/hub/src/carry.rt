@@ -9,7 +9,8 @@ ghost use Rattle.reference.specs.Replies.{Done, Number, Rows};
 ghost use Rattle.reference.specs.Steps.{AreNext};
 ghost use Rattle.leases.specs.Shown.{engine_in};
 ghost use Rattle.leases.specs.Takes.{Peeks};
-ghost use Rattle.hub.specs.Calls.{Answered, AreOne, Refused};
+ghost use Rattle.hub.specs.Calls.{Answered, Refused};
+ghost use Rattle.hub.specs.EngineCalls.{AreOne};
 
 use answer_rows::AnswerRows;
 use histories::{Command, CommandKind, CommandReply, ReplyKind};

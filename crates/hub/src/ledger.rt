@@ -1,7 +1,7 @@
 //! Keeps which calls of each seat are settled, and the numbers of those that are due.
 ghost use Rattle.std.specs.Prelude.{◌≡◌, ◌+◌, ◌<◌, ◌^◌, IfOk, OnOk, length};
-ghost use Rattle.hub.specs.Ledgers.{HasPlace, account_in, cleared, fresh, ledger_in, noted};
-ghost use Rattle.hub.specs.Ledgers.{opened_for};
+ghost use Rattle.hub.specs.Ledgers.{cleared, noted};
+ghost use Rattle.hub.specs.LedgerViews.{HasPlace, account_in, fresh, ledger_in, opened_for};
 
 use crate::settled::Settled;
 use std::alloc::{AllocError, Global};
@@ -40,7 +40,7 @@ impl Account {
 
 impl Ledger {
     /// Makes the accounts of `seats` new seats.
-    #[tactic(auto, unfolding(crate::specs::Ledgers::ledger_in))]
+    #[tactic(auto, unfolding(crate::specs::LedgerViews::ledger_in))]
     pub(crate) fn new(alloc: Global, seats: u64) -> Result<Ledger, AllocError>
         ensures { IfOk result (λ l. ledger_in l ≡ opened_for seats) }
     {
@@ -56,7 +56,7 @@ impl Ledger {
     }
 
     /// Makes room for one more number of this seat.
-    #[tactic(auto, unfolding(crate::specs::Ledgers::ledger_in))]
+    #[tactic(auto, unfolding(crate::specs::LedgerViews::ledger_in))]
     pub(crate) fn reserve(&mut self, seat: u64) -> Result<(), AllocError>
         ensures same { ledger_in self.new ≡ ledger_in self.old }
         ensures ok { OnOk result (HasPlace self.new seat) }
@@ -69,7 +69,7 @@ impl Ledger {
     }
 
     /// Notes an accepted call of this number, by this seat. Takes no memory.
-    #[tactic(auto, unfolding(crate::specs::Ledgers::ledger_in))]
+    #[tactic(auto, unfolding(crate::specs::LedgerViews::ledger_in))]
     pub(crate) fn note(&mut self, seat: u64, number: u64)
         requires place { HasPlace self.old seat }
         requires strangers { (ledger_in self.old).strangers < 2 ^ 63 }
@@ -84,7 +84,7 @@ impl Ledger {
     }
 
     /// Notes that a seat settled, and what is settled of it now. Takes no memory.
-    #[tactic(auto, unfolding(crate::specs::Ledgers::ledger_in))]
+    #[tactic(auto, unfolding(crate::specs::LedgerViews::ledger_in))]
     pub(crate) fn settle(&mut self, alloc: Global, seat: u64, settled: Settled, count: u64)
         requires seat { seat < length (ledger_in self.old).accounts }
         requires count { (ledger_in self.old).settled + count < 2 ^ 64 }

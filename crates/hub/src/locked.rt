@@ -9,7 +9,8 @@ ghost use Rattle.hub.specs.Reached.{IsReachedBy};
 ghost use Rattle.hub.specs.Seats.{IsAudited, PlainSeat, opened};
 ghost use Rattle.laws_engine.specs.Promises.{KeepsItsPromises};
 ghost use Rattle.leases.specs.Openings.{opening_in};
-ghost use Rattle.hub.specs.Steps.{Forgets, IsFresh, IsReplayed, OpensAt, engine_at};
+ghost use Rattle.hub.specs.Steps.{Forgets, IsReplayed, OpensAt, engine_at};
+ghost use Rattle.hub.specs.Workers.{IsFresh};
 ghost use Rattle.hub.specs.declared.locked.TheConstants.{MAX_HISTORY, MAX_SEATS};
 
 mod calls;
@@ -117,7 +118,8 @@ impl Model for Locked {
     ghost use Rattle.leases.specs.Openings.{opening_in};
     ghost use Rattle.leases.specs.Shown.{engine_in};
     ghost use Rattle.histories.specs.Histories.{Replays};
-    ghost use Rattle.hub.specs.Ledgers.{IsLedger, ledger_in};
+    ghost use Rattle.hub.specs.Ledgers.{IsLedger};
+    ghost use Rattle.hub.specs.LedgerViews.{ledger_in};
     ghost use Rattle.hub.specs.Reached.{IsReachedBy};
     ghost use Rattle.hub.specs.Steps.{OpensAt, PlainLocked};
 

@@ -2,7 +2,8 @@
 ghost use Rattle.std.specs.Prelude.{ℕ, All, ◌⊎◌, ◌≤◌, ◌<◌, ◌+◌, ◌≡◌, ◌^◌, length, max};
 ghost use Rattle.std.specs.Prelude.{slice_get, Some};
 ghost use Rattle.histories.specs.Histories.{Told};
-ghost use Rattle.hub.specs.Seats.{IsRisingFrom, PlainSeat, reach};
+ghost use Rattle.hub.specs.Seats.{PlainSeat, reach};
+ghost use Rattle.hub.specs.Rising.{IsRisingFrom};
 
 use crate::settled::Settled;
 use histories::Receipt;
@@ -27,7 +28,8 @@ pub struct Seat {
 
 impl Model for Seat {
     ghost use Rattle.std.specs.Prelude.{◌≡◌, max};
-    ghost use Rattle.hub.specs.Seats.{IsRisingFrom, PlainSeat, held};
+    ghost use Rattle.hub.specs.Seats.{PlainSeat, held};
+    ghost use Rattle.hub.specs.Rising.{IsRisingFrom};
 
     ghost Value = { PlainSeat };
 
@@ -43,7 +45,8 @@ impl Model for Seat {
 }
 
 impl Seat {
-    ghost use Rattle.hub.specs.Seats.{IsRisingFrom, PlainSeat, by_number, count_below, held, opened};
+    ghost use Rattle.hub.specs.Seats.{PlainSeat, by_number, count_below, held, opened};
+    ghost use Rattle.hub.specs.Rising.{IsRisingFrom};
     ghost use Rattle.hub.specs.Seats.{reach};
 
     /// Makes a seat with this number and no receipt. Takes no memory.

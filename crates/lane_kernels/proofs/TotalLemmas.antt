@@ -13,7 +13,8 @@ use Rattle.column.specs.Bits.{bits, place}
 use Rattle.lane_kernels.proofs.SumLemmas.{fits_within, within_neg, within_add}
 use Rattle.lane_kernels.proofs.LaneLemmas.{back}
 use Rattle.std.proofs.lemmas.List.{length-map}
-use Rattle.values.specs.Value.{IsStreamNumber, stream_max}
+use Rattle.values.specs.Value.{stream_max}
+use Rattle.values.specs.Ranges.{IsStreamNumber}
 use Rattle.column.specs.Columns.{IsStreamValue, numbers_of}
 use Rattle.lane_kernels.specs.Truth.{signed_total}
 use mir.Val.{SFits}

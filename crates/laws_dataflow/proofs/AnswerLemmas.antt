@@ -7,16 +7,18 @@ use Rattle.values.specs.Row.{Row, row_cmp}
 use Rattle.values.specs.Bag.{in_order}
 use Rattle.values.specs.Window.{Element}
 use Rattle.values.specs.Answers.{Resolved, answers_at, body, relation, relation_before, shown_at, streamed}
-use Rattle.values.specs.Resolved.{operator_of}
+use Rattle.values.specs.StreamOperators.{operator_of}
 use Rattle.op_queue.specs.Entries.{Entry}
 use Rattle.to_stream.specs.Turns.{State}
-use Rattle.plan.specs.Nodes.{plan_value}
+use Rattle.plan.specs.Values.{plan_value}
 use Rattle.plan.proofs.Whole.{plan-body}
 use Rattle.reference.specs.Machine.{Machine, Registered, closed_answers, opens, until_for}
 use Rattle.laws_dataflow.specs.Nets.{Cell, Planned, Laid}
 use Rattle.laws_dataflow.specs.Operators.{net_of}
 use Rattle.laws_dataflow.specs.Queries.{before, given_at, given_from, GoodQuery, Idle}
-use Rattle.laws_dataflow.specs.Plans.{AreWide, IsPlanOf, bags_of, below_root, consumer_of, inputs_of, least_of, value_of, world_of}
+use Rattle.laws_dataflow.specs.Plans.{AreWide, IsPlanOf, bags_of, consumer_of, inputs_of, least_of}
+use Rattle.laws_dataflow.specs.Plans.{value_of, world_of}
+use Rattle.laws_dataflow.specs.Roots.{below_root}
 use Rattle.laws_dataflow.proofs.LeastLemmas.{closed_from, least_all, least_open}
 use Rattle.laws_dataflow.proofs.PlanLemmas.{Shaped, planned, shaped_plan, top_least, top_value, window_bags}
 use Rattle.laws_dataflow.specs.Laws.{TurnsKeep}

@@ -3,7 +3,8 @@ use Rattle.std.proofs.Common.{◌≡◌, ℕ, ◌+◌, ◌<◌, ◌≤◌, ◌�
 use Rattle.std.proofs.lemmas.Bool.{cases_lt, lt-leb}
 use Rattle.values.specs.Row.{Row}
 use Rattle.values.specs.Window.{Element}
-use Rattle.op_queue.specs.Entries.{Entry, RowAt, TickAt, instant_of}
+use Rattle.op_queue.specs.Entries.{Entry, RowAt, TickAt}
+use Rattle.op_queue.specs.Forward.{instant_of}
 use Rattle.op_queue.specs.Paths.{Leads, Synced}
 use Rattle.laws_dataflow.specs.Windows.{Brings}
 use Rattle.laws_dataflow.specs.Passes.{Clears, reached, ended, ticked}

@@ -9,7 +9,8 @@ use Rattle.values.proofs.Order.{row_order}
 use Rattle.values.proofs.Perms.{perm-distinct, perm-filter, perm-flat_map, perm-flat_map_each, perm-map}
 use Rattle.values.proofs.Worlds.{perm-shaped}
 use Rattle.op_queue.specs.Signed.{Same}
-use Rattle.plan.specs.Nodes.{Key, holds_all, pair, joined, selected, shaped_rows}
+use Rattle.plan.specs.Nodes.{Key}
+use Rattle.plan.specs.Values.{holds_all, pair, joined, selected, shaped_rows}
 use Rattle.laws_dataflow.proofs.BagLemmas.{perm_same, same_perm}
 
 pub selected_same : (cs : List Condition) (xs ys : List Row) → Same xs ys → Same (selected cs xs) (selected cs ys)

@@ -17,7 +17,9 @@ use Rattle.laws_dataflow.specs.Nets.{World, Cell}
 use Rattle.laws_dataflow.specs.Operators.{net_of}
 use Rattle.laws_dataflow.specs.Worlds.{Beat, Change, fed_cell, appended as with_more}
 use Rattle.laws_dataflow.specs.Queries.{GoodQuery}
-use Rattle.laws_dataflow.specs.Plans.{AreWide, IsPlanOf, arrivals_at, below_root, comes, inputs_of, least_of, value_in, value_of, world_by, world_of}
+use Rattle.laws_dataflow.specs.Plans.{AreWide, IsPlanOf, arrivals_at, comes, inputs_of, least_of}
+use Rattle.laws_dataflow.specs.Plans.{value_in, value_of, world_by, world_of}
+use Rattle.laws_dataflow.specs.Roots.{below_root}
 use Rattle.values.specs.Answers.{shown_at}
 use Rattle.laws_dataflow.proofs.AnswerLemmas.{query_planned, shaped}
 use Rattle.laws_dataflow.proofs.BagLemmas.{same_of}

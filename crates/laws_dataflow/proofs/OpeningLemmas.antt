@@ -5,7 +5,8 @@ use Rattle.std.specs.List.{reduce}
 use Rattle.std.proofs.lemmas.Bool.{cases_lt}
 use Rattle.std.proofs.lemmas.List.{get_or_past, length-map}
 use Rattle.values.specs.Row.{Row}
-use Rattle.values.specs.Needs.{Each, HasNeeded, is_needed}
+use Rattle.values.specs.Needs.{is_needed}
+use Rattle.values.specs.Enough.{Each, HasNeeded}
 use Rattle.values.specs.Window.{Element, Window}
 use Rattle.values.proofs.WindowLaw.{window_law}
 use Rattle.op_queue.specs.Entries.{Entry}
@@ -16,7 +17,9 @@ use Rattle.laws_dataflow.specs.Nets.{Cell, Planned}
 use Rattle.laws_dataflow.specs.Operators.{net_of}
 use Rattle.laws_dataflow.specs.Worlds.{Keeps, forgotten}
 use Rattle.laws_dataflow.specs.Queries.{GoodQuery, GoodRoot}
-use Rattle.laws_dataflow.specs.Plans.{AreWide, IsPlanOf, below_root, comes, consumer_of, inputs_of, least_of, value_of, world_by, world_of}
+use Rattle.laws_dataflow.specs.Plans.{AreWide, IsPlanOf, comes, consumer_of, inputs_of, least_of}
+use Rattle.laws_dataflow.specs.Plans.{value_of, world_by, world_of}
+use Rattle.laws_dataflow.specs.Roots.{below_root}
 use Rattle.laws_dataflow.proofs.AnswerLemmas.{query_laid, query_least, query_planned, shaped}
 use Rattle.laws_dataflow.proofs.BagLemmas.{same_of}
 use Rattle.laws_dataflow.proofs.ForgetLemmas.{opens_ahead, query_forgets}

@@ -6,7 +6,7 @@ use Rattle.values.specs.Row.{Row, row_cmp}
 use Rattle.values.specs.Window.{Element, Window, window_rows}
 use Rattle.values.specs.Bag.{in_order}
 use Rattle.values.specs.Answers.{StreamOperator, streamed}
-use Rattle.values.specs.Resolved.{operator_of}
+use Rattle.values.specs.StreamOperators.{operator_of}
 use Rattle.op_queue.specs.Entries.{Entry, TickAt}
 use Rattle.op_queue.specs.Paths.{Leads}
 use Rattle.op_queue.specs.Signed.{Same}
@@ -15,7 +15,8 @@ use Rattle.op_queue.proofs.SignedLemmas.{Same-refl, Same-sym, Same-trans}
 use Rattle.to_stream.specs.Turns.{State}
 use Rattle.laws_dataflow.specs.Windows.{Brings, GoodWindow}
 use Rattle.laws_dataflow.specs.Nets.{Node, window, unary, join, Unary, Binary, World, bag_at, Cell, at_window, at_unary, at_join, cell_shown, cell_next, Input, IsLawful, GoodOne, GoodTwo, GoodCell, value_by, past, left_of, right_of, input_of, GoodAt, ComesLater, Planned}
-use Rattle.laws_dataflow.specs.Queries.{before, behind, given_at, given_from, GoodRoot, GoodQuery}
+use Rattle.laws_dataflow.specs.Queries.{before, given_at, given_from, GoodRoot, GoodQuery}
+use Rattle.laws_dataflow.specs.Roots.{behind}
 use Rattle.laws_dataflow.specs.Passes.{Clears, reached, ended, ticked, Passes, stays, window_passes, unary_passes, join_passes, Silent, Moved}
 use Rattle.laws_dataflow.proofs.RootLemmas.{given_more, listed_same}
 use Rattle.laws_dataflow.proofs.WindowLemmas.{Brings_none}

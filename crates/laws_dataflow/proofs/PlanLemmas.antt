@@ -4,14 +4,18 @@ use Rattle.std.proofs.lemmas.Bool.{lt-ltb}
 use Rattle.std.proofs.lemmas.List.{get_or-append-add, length-map}
 use Rattle.std.proofs.lemmas.List.FromFn.{length-map-range_with_len}
 use Rattle.values.specs.Row.{Row, row_cmp}
-use Rattle.values.specs.Window.{Element, Window, Unbounded, window_rows}
+use Rattle.values.specs.Window.{Element, Window, window_rows}
+use Rattle.values.specs.Plain.{unbounded}
 use Rattle.values.specs.Bag.{distinct}
 use Rattle.values.specs.Condition.{SourceColumn, Condition}
 use Rattle.values.specs.Relation.{Shape, Listed, Grouped}
 use Rattle.values.specs.Answers.{StreamOperator, Resolved, shown_at}
 use Rattle.names.specs.Split.{all_conjuncts, join_keys, join_keys_of, own, own_of, remaining}
 use Rattle.plan.specs.Nodes as plan
-use Rattle.plan.specs.Nodes.{Key, Window as WindowNode, Select, Join, Project, Group, Distinct, ToStream, node_value, values_of, last_of, plan_value}
+use Rattle.plan.specs.Values as valued
+use Rattle.plan.specs.Nodes.{Key, Window as WindowNode, Select, Join, Project, Group, Distinct}
+use Rattle.plan.specs.Nodes.{ToStream}
+use Rattle.plan.specs.Values.{node_value, values_of, last_of, plan_value}
 use Rattle.plan.specs.Build.{all_alone, end_nodes, joins_of, key_placed, moved, nodes_over, placed, plan_of, rest_nodes, rest_top, shape_node, source_nodes, top_of, tops}
 use Rattle.plan.proofs.Numbers.{Below, Rises, nodes-rise, value-at}
 use Rattle.plan.proofs.Values.{all_selected, values-length}
@@ -37,10 +41,10 @@ lawful (ToStream i op) = selected_same []
 value_node : (w : World) (ws all : List (List Row)) (v : ℕ → ℕ → List Row) (s : ℕ → Cell) (t : ℕ) → ((k : ℕ) → get_or ws k [] ≡ bag_at w k t) → ((i : ℕ) → get_or all i [] ≡ v i t) → (x : plan.Node)
     → node_value ws all x ≡ value_by w (node_of x) (input_of v s (left_of (node_of x))) (input_of v s (right_of (node_of x))) t
 value_node w ws all v s t b h (WindowNode k) = b k
-value_node w ws all v s t b h (Select i cs) = ap (plan.selected cs) (h i)
-value_node w ws all v s t b h (Join i j keys) = ap₂ (plan.joined keys) (h i) (h j)
-value_node w ws all v s t b h (Project i columns) = ap (plan.shaped_rows (Listed columns)) (h i)
-value_node w ws all v s t b h (Group i by items) = ap (plan.shaped_rows (Grouped by items)) (h i)
+value_node w ws all v s t b h (Select i cs) = ap (valued.selected cs) (h i)
+value_node w ws all v s t b h (Join i j keys) = ap₂ (valued.joined keys) (h i) (h j)
+value_node w ws all v s t b h (Project i columns) = ap (valued.shaped_rows (Listed columns)) (h i)
+value_node w ws all v s t b h (Group i by items) = ap (valued.shaped_rows (Grouped by items)) (h i)
 value_node w ws all v s t b h (Distinct i) = ap (distinct row_cmp) (h i)
 value_node w ws all v s t b h (ToStream i op) = h i ∙ sym (all_selected (v i t))
 
@@ -61,7 +65,7 @@ planned w bags ns count b r few = record {
     value_here k t h = let e : 0 + k ≡ k = omega arith in ap (λ i. get_or (values_of (bags t) [] ns) i []) (sym e) ∙ value-at (bags t) [] ns 0 k (WindowNode 0) refl r h
 
 -- the windows' bags
-pub window_bags : (first t : ℕ) (ws : List Window) (inputs : List (List Element)) → length ws ≡ length inputs → (k : ℕ) → get_or (shown_at first ws t inputs) k [] ≡ window_rows first (get_or ws k Unbounded) t (get_or inputs k [])
+pub window_bags : (first t : ℕ) (ws : List Window) (inputs : List (List Element)) → length ws ≡ length inputs → (k : ℕ) → get_or (shown_at first ws t inputs) k [] ≡ window_rows first (get_or ws k unbounded) t (get_or inputs k [])
 window_bags first t [] [] e k = refl
 window_bags first t [] (es ∷ inputs) e k = absurd (omega (arith, e))
 window_bags first t (w ∷ ws) [] e k = absurd (omega (arith, e))

@@ -4,7 +4,7 @@ use Rattle.values.specs.Row.{Row, row_cmp}
 use Rattle.values.specs.Window.{Element, Window, window_rows}
 use Rattle.values.specs.Bag.{in_order}
 use Rattle.values.specs.Answers.{streamed}
-use Rattle.values.specs.Resolved.{operator_of}
+use Rattle.values.specs.StreamOperators.{operator_of}
 use Rattle.values.proofs.Order.{row_order}
 use Rattle.values.proofs.Windows.{AllAfter, window_rows-later}
 use Rattle.op_queue.specs.Entries.{Entry}

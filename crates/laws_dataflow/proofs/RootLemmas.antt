@@ -7,7 +7,7 @@ use Rattle.values.specs.Row.{Row, row_cmp}
 use Rattle.values.specs.Perm.{Perm}
 use Rattle.values.specs.Bag.{in_order, without}
 use Rattle.values.specs.Answers.{StreamOperator, Istream, Dstream, Rstream, streamed}
-use Rattle.values.specs.Resolved.{operator_of}
+use Rattle.values.specs.StreamOperators.{operator_of}
 use Rattle.values.proofs.Order.{row_order}
 use Rattle.values.proofs.Perms.{perm-bag_minus, perm-in_order}
 use Rattle.op_queue.specs.Entries.{Entry, TickAt}
@@ -21,7 +21,8 @@ use Rattle.row_bags.proofs.OrderLemmas.{weigh-without}
 use Rattle.to_stream.specs.Turns.{State, near, out}
 use Rattle.to_stream.specs.Law.{Stands, StepLaw}
 use Rattle.laws_dataflow.specs.Nets.{batch}
-use Rattle.laws_dataflow.specs.Queries.{before, behind, given_at, given_from, GoodRoot}
+use Rattle.laws_dataflow.specs.Queries.{before, given_at, given_from, GoodRoot}
+use Rattle.laws_dataflow.specs.Roots.{behind}
 use Rattle.laws_dataflow.proofs.BagLemmas.{same_perm}
 
 -- A BAG WITH SIGNED ROWS ADDED, where it may be cut anywhere

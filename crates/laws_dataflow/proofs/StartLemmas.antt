@@ -12,11 +12,12 @@ use Rattle.laws_dataflow.specs.Windows.{GoodWindow}
 use Rattle.laws_dataflow.specs.Nets.{Unary, Binary, Node, window, unary, join, World, cell_shown, cell_next, Input, GoodOne, GoodTwo, GoodCell}
 use Rattle.laws_dataflow.specs.Queries.{before, given_at, GoodRoot, GoodQuery}
 use Rattle.laws_dataflow.specs.Operators.{node_of, net_of}
-use Rattle.laws_dataflow.specs.Plans.{below_root, inputs_of, value_of, world_of}
+use Rattle.laws_dataflow.specs.Plans.{inputs_of, value_of, world_of}
+use Rattle.laws_dataflow.specs.Roots.{below_root}
 use Rattle.plan.specs.Nodes as plan
 use Rattle.plan.specs.Nodes.{Window as WindowNode, Select, Join, Project, Group, Distinct, ToStream}
 use Rattle.reference.specs.Machine.{Machine, Registered, opens}
-use Rattle.values.specs.Resolved.{operator_of}
+use Rattle.values.specs.StreamOperators.{operator_of}
 use Rattle.std.proofs.lemmas.Bool.{lt-leb}
 use Rattle.laws_dataflow.specs.Starts.{fresh_cell, StartsEmpty, fresh_root}
 

@@ -22,7 +22,7 @@ use Rattle.group.specs.Turns as group
 use Rattle.group.specs.Laws as laws
 use Rattle.group.proofs.LawLemmas.{rows_law, outputs_turn, tick_stands}
 use Rattle.group.proofs.DistinctLemmas.{distinct_law}
-use Rattle.plan.specs.Nodes.{holds_all, selected, shaped_rows}
+use Rattle.plan.specs.Values.{holds_all, selected, shaped_rows}
 use Rattle.plan.specs.Views.{columns_at}
 use Rattle.laws_dataflow.specs.Nets.{Unary, World, unary, Cell, at_unary, GoodOne, RowsStep, TickStep, batch, closing, Turn, rows_turn, tick_turn}
 use Rattle.laws_dataflow.specs.Operators.{selecting, listing, grouping, once, Tell}

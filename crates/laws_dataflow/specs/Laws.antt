@@ -1,7 +1,7 @@
 -- What is promised of nets.
 use Rattle.std.specs.Prelude.{◌≡◌, ◌≢◌, ℕ, Bool, Some, ◌<◌, List, ◌∷◌, ◌++◌}
 use Rattle.values.specs.Row.{Row}
-use Rattle.values.specs.Resolved.{operator_of}
+use Rattle.values.specs.StreamOperators.{operator_of}
 use Rattle.op_queue.specs.Entries.{Entry, TickAt}
 use Rattle.op_queue.specs.declared.item.Item.TheVariants.{Rows, Tick}
 use Rattle.to_stream.specs.Turns.{State, near, out}
@@ -10,7 +10,8 @@ use Rattle.reference.specs.Machine.{Machine, Registered, closed_answers}
 use Rattle.laws_dataflow.specs.Nets.{Cell, Feeds, Turn, batch}
 use Rattle.laws_dataflow.specs.Queries.{GoodQuery, Idle}
 use Rattle.laws_dataflow.specs.Operators.{net_of}
-use Rattle.laws_dataflow.specs.Plans.{AreWide, IsPlanOf, below_root, consumer_of, value_of}
+use Rattle.laws_dataflow.specs.Plans.{AreWide, IsPlanOf, consumer_of, value_of}
+use Rattle.laws_dataflow.specs.Roots.{below_root}
 use Rattle.laws_dataflow.specs.Plans.{world_of}
 
 -- THE QUERY as the machine has it: its operators below the root have these

@@ -4,6 +4,7 @@ pub mod Worlds
 pub mod Queries
 pub mod Operators
 pub mod Plans
+pub mod Roots
 pub mod Starts
 pub mod Laws
 pub mod Examples

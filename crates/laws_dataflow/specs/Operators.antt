@@ -8,7 +8,7 @@ use Rattle.lane_kernels.specs.Steps.{steps_truth}
 use Rattle.lane_kernels.specs.declared.condition.Step.{Step}
 use Rattle.plan.specs.Nodes as plan
 use Rattle.plan.specs.Nodes.{Key, Window, Select, Join, Project, Group, Distinct, ToStream}
-use Rattle.plan.specs.Nodes.{holds_all, joined, selected, shaped_rows}
+use Rattle.plan.specs.Values.{holds_all, joined, selected, shaped_rows}
 use Rattle.laws_dataflow.specs.Nets.{Unary, Binary, Node, window, unary, join}
 
 abbrev pub selecting : List Condition → Unary

@@ -4,7 +4,7 @@ use Rattle.values.specs.Row.{Row, row_cmp}
 use Rattle.values.specs.Window.{Element}
 use Rattle.values.specs.Bag.{in_order}
 use Rattle.values.specs.Answers.{streamed}
-use Rattle.values.specs.Resolved.{operator_of}
+use Rattle.values.specs.StreamOperators.{operator_of}
 use Rattle.op_queue.specs.Entries.{Entry, TickAt}
 use Rattle.op_queue.specs.Signed.{Same}
 use Rattle.to_stream.specs.Turns.{State}

@@ -1,17 +1,17 @@
 -- A registered query's plan as a net: the consumer of each operator,
 -- the values of all, and what the machine knows of its streams.
 use Rattle.std.specs.Prelude.{◌≡◌, ℕ, suc, ◌-◌, ◌<◌, cond, max, min, List, [], ◌∷◌, ◌++◌, map}
-use Rattle.std.specs.Prelude.{length, get_or}
+use Rattle.std.specs.Prelude.{length, get_or, slice_get}
 use Rattle.values.specs.Row.{Row}
-use Rattle.values.specs.Window.{Element, Window, Unbounded}
+use Rattle.values.specs.Window.{Element, Window}
+use Rattle.values.specs.Plain.{unbounded}
 use Rattle.values.specs.Answers.{Resolved, shown_at}
 use Rattle.plan.specs.Nodes as plan
 use Rattle.plan.specs.Nodes.{Window as WindowNode, Select, Join, Project, Group, Distinct, ToStream}
-use Rattle.plan.specs.Nodes.{values_of}
+use Rattle.plan.specs.Values.{values_of}
 use Rattle.plan.specs.Build.{plan_of}
 use Rattle.plan.specs.Paths.{takes}
 use Rattle.plan.specs.Scope.{Scoped, Tables}
-use Rattle.std.specs.Prelude.{slice_get}
 use Rattle.std.specs.Option.{option_map_or}
 use Rattle.reference.specs.Machine.{Machine, Place, Registered, Stream, opens, input_at}
 use Rattle.laws_dataflow.specs.Nets.{World}
@@ -25,10 +25,6 @@ consumer i n (x ∷ xs) = cond (takes i x) n (consumer i (suc n) xs)
 
 abbrev pub consumer_of : List plan.Node → ℕ → ℕ
 consumer_of ns i = consumer i 0 ns
-
--- how many operators stand below the root
-abbrev pub below_root : List plan.Node → ℕ
-below_root ns = length ns - 1
 
 -- VALUES
 -- the value of the operator k at the instant t, where the windows show these bags
@@ -58,7 +54,7 @@ abbrev pub world_by : ℕ → List Window → List (List Element) → List ℕ �
 world_by first ws inputs open_at came =
     record {
       first = first;
-      windows = λ k. get_or ws k Unbounded;
+      windows = λ k. get_or ws k unbounded;
       inputs = λ k. get_or inputs k [];
       closed = λ k. max first (get_or open_at k 0);
       came = λ k. get_or came k 0;

@@ -1,17 +1,18 @@
 -- The root of a query, and what was given of its answers.
-use Rattle.std.specs.Prelude.{◌+◌, Option, Some, None}
-use Rattle.std.specs.Prelude.{ℕ, zero, suc, ◌-◌, ◌<◌, ◌≤◌, ◌≡◌, cond, nat_le, List, [], ◌++◌, map}
+use Rattle.std.specs.Prelude.{◌+◌, ℕ, zero, suc, ◌-◌, ◌<◌, ◌≤◌, ◌≡◌, cond, nat_le, List, [], ◌++◌}
+use Rattle.std.specs.Prelude.{map}
 use Rattle.std.specs.List.{flat_map, range_with_len}
 use Rattle.values.specs.Row.{Row, row_cmp}
 use Rattle.values.specs.Bag.{in_order}
 use Rattle.values.specs.Answers.{StreamOperator, streamed}
-use Rattle.values.specs.Resolved.{operator_of}
+use Rattle.values.specs.StreamOperators.{operator_of}
 use Rattle.op_queue.specs.Entries.{Entry}
 use Rattle.op_queue.specs.Paths.{Leads}
 use Rattle.op_queue.specs.Signed.{Same}
 use Rattle.to_stream.specs.Turns.{State}
 use Rattle.to_stream.specs.Law.{Stands}
 use Rattle.laws_dataflow.specs.Nets.{Node, World, Cell, cell_shown, cell_next, IdleCell, GoodAt}
+use Rattle.laws_dataflow.specs.Roots.{behind}
 
 -- ANSWERS BY THE VALUES of the relation at the instants; below the first instant it is empty
 
@@ -27,11 +28,6 @@ given_at op first v t = map (λ r. (t, r)) (in_order row_cmp (streamed op (befor
 abbrev pub given_from : StreamOperator → ℕ → (ℕ → List Row) → ℕ → ℕ → List (ℕ × Row)
 given_from op first v start until =
     flat_map (given_at op first v) (range_with_len start (until - start))
-
--- the first instant that is open behind the last tick
-abbrev pub behind : ℕ → Option ℕ → ℕ
-behind first None = first
-behind first (Some t) = t + 1
 
 -- THE ROOT: its state and queue, over an operator that has put out the bag `below` and stands at
 -- the open instant m. It has given `earlier`, and behind it the answers from the instant `start` on

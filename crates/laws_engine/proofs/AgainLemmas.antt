@@ -2,17 +2,19 @@
 use Rattle.std.proofs.Common.{◌≡◌, ℕ, List, refl, sym, ap, subst}
 use Rattle.values.specs.Row.{Row}
 use Rattle.op_queue.specs.Logs.{Closed}
-use Rattle.operators.specs.Operators.{PlainOperator}
+use Rattle.operators.specs.Ready.{PlainOperator}
 use Rattle.operators.specs.declared.inboxes.Inbox.{Inbox}
 use Rattle.plan.specs.Nodes as plan
 use Rattle.plan.specs.Nodes.{Window, Select, Join, Project, Group, Distinct, ToStream}
 use Rattle.reference.specs.Machine.{Machine, Registered}
 use Rattle.laws_dataflow.specs.Nets.{Cell}
-use Rattle.laws_dataflow.specs.Plans.{below_root, world_of}
+use Rattle.laws_dataflow.specs.Plans.{world_of}
+use Rattle.laws_dataflow.specs.Roots.{below_root}
 use Rattle.laws_queries.specs.Runs.{Runs, RunsRoot}
 use Rattle.laws_queries.specs.Widths.{width_at}
 use Rattle.laws_engine.specs.Calls.{with_queries, with_taken}
-use Rattle.laws_queries.specs.Queries.{HasInboxes, IsLeftInbox, IsRunning, RunsAt, log_at, node_at, operator_at, source_of, stream_log}
+use Rattle.laws_queries.specs.Queries.{HasInboxes, IsLeftInbox, IsRunning, RunsAt}
+use Rattle.laws_queries.specs.Plain.{log_at, node_at, operator_at, source_of, stream_log}
 
 pub source_again : (q : Registered) (n ever : ℕ) (node : plan.Node) → source_of (with_taken q n ever) node ≡ source_of q node
 source_again q n ever (Window s) = refl

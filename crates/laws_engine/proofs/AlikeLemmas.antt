@@ -6,23 +6,29 @@ use Rattle.std.specs.Option.{option_map_or}
 use Rattle.std.proofs.Math.Seq.{drop-append_seam}
 use Rattle.reference.specs.Alike.{Alike}
 use Rattle.reference.specs.Machine.{Registered, Stream}
-use Rattle.laws_forgetting.specs.Openings.{AreNumbered, IsMark, MayOpen, answers_below}
+use Rattle.laws_forgetting.specs.Openings.{AreNumbered, IsMark, MayOpen}
+use Rattle.laws_forgetting.specs.Below.{answers_below}
 use Rattle.laws_forgetting.specs.Partly.{MayOpenMarked, PartlyAlike, has_mark}
 use Rattle.laws_forgetting.proofs.OpeningLemmas.{opened_alike, opened_partly}
 use Rattle.laws_forgetting.proofs.PartlyLemmas.{alike_of_fewer}
 use Rattle.laws_dataflow.specs.Operators.{net_of}
 use Rattle.laws_dataflow.specs.Plans as plans
-use Rattle.laws_dataflow.specs.Plans.{below_root, consumer_of, inputs_of, least_of, value_of}
-use Rattle.laws_dataflow.specs.Queries.{behind, given_from}
+use Rattle.laws_dataflow.specs.Plans.{consumer_of, inputs_of, least_of, value_of}
+use Rattle.laws_dataflow.specs.Roots.{behind, below_root}
+use Rattle.laws_dataflow.specs.Queries.{given_from}
 use Rattle.laws_dataflow.proofs.AnswerLemmas.{over_is, query_laid, query_least, query_planned, query_value, shaped}
 use Rattle.laws_dataflow.proofs.ForgetLemmas.{opens_ahead}
 use Rattle.laws_dataflow.proofs.IdleLemmas.{all_below}
 use Rattle.laws_queries.specs.Machines.{widths_of}
-use Rattle.laws_queries.specs.Queries.{IsRunning, PlainQuery}
+use Rattle.laws_queries.specs.Queries.{IsRunning}
+use Rattle.laws_queries.specs.Plain.{PlainQuery}
 use Rattle.laws_queries.specs.Rows.{HasRows}
-use Rattle.laws_engine.specs.Engines.{Broken, Dropped, GoodEngine, Goes, PlainEngine, PlainRemains, Running, answers_in, next_of, query_at, remains_at, world_of}
-use Rattle.operators.specs.States.{last_in}
-use Rattle.laws_engine.specs.Openings.{IsUnbroken, forgotten, goes_on, is_running, mark_in, marks_by}
+use Rattle.laws_engine.specs.Engines.{Broken, Dropped, PlainEngine, PlainRemains, Running}
+use Rattle.laws_engine.specs.Engines.{answers_in, next_of, query_at, remains_at, world_of}
+use Rattle.laws_engine.specs.Good.{GoodEngine, Goes}
+use Rattle.operators.specs.Ready.{last_in}
+use Rattle.laws_engine.specs.Openings.{forgotten, mark_in, marks_by}
+use Rattle.laws_engine.specs.Unbroken.{IsUnbroken, goes_on, is_running}
 use Rattle.laws_engine.proofs.ForgottenLemmas.{length-marks, marks_at}
 use Rattle.laws_engine.specs.Promises.{AreCompleteUpto, HasGivenBelow}
 use Rattle.laws_engine.proofs.UptoLemmas.{upto_again}

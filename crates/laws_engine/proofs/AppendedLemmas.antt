@@ -1,17 +1,19 @@
 -- An append leaves an engine good.
 use Rattle.std.proofs.Common.{◌≡◌, ℕ, ℤ, cond, Option, Some, None, List, length, nat_lt, refl, sym, ap, subst}
 use Rattle.std.proofs.lemmas.Option.{get_or_from_slice_get, slice_get_within}
-use Rattle.operators.specs.Operators.{ready}
+use Rattle.operators.specs.Ready.{ready}
 use Rattle.reference.specs.Commands.{Append, after, first_fault}
 use Rattle.reference.specs.Machine.{Registered}
 use Rattle.laws_queries.specs.Machines.{IsQuery}
-use Rattle.laws_queries.specs.Queries.{log_at, node_at, operator_at, source_of}
+use Rattle.laws_queries.specs.Plain.{log_at, node_at, operator_at, source_of}
 use Rattle.laws_queries.specs.Steps.{IsFirst}
 use Rattle.laws_queries.proofs.AppendLemmas.{append_logs}
 use Rattle.laws_queries.proofs.MachineCounts.{keeps_limit, machines_stand, queries_stand}
 use Rattle.laws_queries.proofs.RowLemmas.{rows_stand}
 use Rattle.run_queue.specs.Slots.{slot}
-use Rattle.laws_engine.specs.Engines.{Broken, Dropped, GoodEngine, IsLease, Lease, PlainEngine, PlainRemains, Running, is_leased, query_at, remains_at, slope_at, slot_in, slot_of}
+use Rattle.laws_engine.specs.Engines.{Broken, Dropped, Lease, PlainEngine, PlainRemains, Running}
+use Rattle.laws_engine.specs.Engines.{is_leased, query_at, remains_at, slope_at}
+use Rattle.laws_engine.specs.Good.{GoodEngine, IsLease, slot_in, slot_of}
 use Rattle.laws_engine.specs.Calls.{appended}
 use Rattle.laws_engine.proofs.StreamLemmas.{append_remains}
 use Rattle.laws_engine.proofs.TakeLemmas.{equal_slots}

@@ -7,12 +7,13 @@ use Rattle.values.specs.Row.{Row}
 use Rattle.column.specs.declared.batch.Side.{Side}
 use Rattle.op_queue.specs.Logs.{Closed}
 use Rattle.op_queue.specs.declared.item.Item.{Item}
-use Rattle.operators.specs.Operators.{PlainOperator, ready}
+use Rattle.operators.specs.Ready.{PlainOperator, ready}
 use Rattle.operators.specs.declared.inboxes.Inbox.{Inbox}
 use Rattle.plan.specs.Nodes as plan
 use Rattle.reference.specs.Machine.{Place, Registered}
 use Rattle.laws_queries.specs.Machines.{IsQuery, columns_of, widths_of}
-use Rattle.laws_queries.specs.Queries.{IsLeftInbox, IsRunning, PlainQuery, change_at_first, log_at, node_at, operator_at, source_of, stream_log}
+use Rattle.laws_queries.specs.Queries.{IsLeftInbox, IsRunning, change_at_first}
+use Rattle.laws_queries.specs.Plain.{PlainQuery, log_at, node_at, operator_at, source_of, stream_log}
 use Rattle.laws_queries.specs.Steps.{IsFirst, outs_at_first}
 use Rattle.laws_queries.proofs.MachineCounts.{queries_stand}
 use Rattle.query_runtime.specs.Runs.{CanRun}
@@ -20,7 +21,8 @@ use Rattle.query_runtime.specs.Turns.{CanFinish, CanLease, CanPut, HasOperator, 
 use Rattle.query_runtime.proofs.RunLemmas.{PlainQueriesRun, plain_queries_run}
 use Rattle.laws_engine.specs.Asks.{IsOperator, MayAsk}
 use Rattle.laws_engine.specs.Calls.{IsOf}
-use Rattle.laws_engine.specs.Engines.{AreRemains, Goes, GoodEngine, Lease, PlainEngine}
+use Rattle.laws_engine.specs.Engines.{Lease, PlainEngine}
+use Rattle.laws_engine.specs.Good.{AreRemains, Goes, GoodEngine}
 use Rattle.laws_engine.proofs.FinishLemmas.{lease_first, query_bounded}
 
 -- THE STREAM that an operator reads is there

@@ -6,14 +6,16 @@ use Rattle.std.proofs.lemmas.Option.{slice_get_within}
 use Rattle.column.specs.declared.batch.Side.{Side}
 use Rattle.op_queue.specs.Logs.{Closed}
 use Rattle.op_queue.specs.declared.item.Item.{Item}
-use Rattle.operators.specs.Operators.{PlainOperator}
+use Rattle.operators.specs.Ready.{PlainOperator}
 use Rattle.operators.specs.States.{near_of}
 use Rattle.plan.proofs.Lists.{by_test}
 use Rattle.reference.specs.Machine.{Registered}
-use Rattle.laws_queries.specs.Queries.{PlainQuery, log_at, operator_at}
+use Rattle.laws_queries.specs.Plain.{PlainQuery, log_at, operator_at}
 use Rattle.laws_queries.specs.Steps.{IsFirst}
 use Rattle.run_queue.specs.declared.slots.Slot.{Slot}
-use Rattle.laws_engine.specs.Engines.{AreApart, AreRemains, Dropped, GoodEngine, HasSlots, IsIn, IsLease, Lease, PlainEngine, PlainRemains, Running, is_of, query_at, remains_at, slot_of}
+use Rattle.laws_engine.specs.Engines.{Dropped, Lease, PlainEngine, PlainRemains, Running, is_of}
+use Rattle.laws_engine.specs.Engines.{query_at, remains_at}
+use Rattle.laws_engine.specs.Good.{AreApart, AreRemains, GoodEngine, HasSlots, IsIn, IsLease, slot_of}
 use Rattle.laws_engine.specs.Calls.{IsOf, given_back, others}
 use Rattle.laws_engine.proofs.PromiseLemmas.{is_slot}
 use Rattle.laws_engine.proofs.SlotLemmas.{AreNumbered, in_filter}

@@ -10,14 +10,16 @@ use Rattle.reference.specs.Inputs.{are_signed}
 use Rattle.reference.specs.Machine.{Machine, Registered, answers_from, closed_answers, input_at, until_for}
 use Rattle.laws_dataflow.specs.Laws as nets
 use Rattle.laws_dataflow.specs.Nets.{Cell, at_unary}
-use Rattle.laws_dataflow.specs.Plans.{bags_of, below_root, value_of}
+use Rattle.laws_dataflow.specs.Plans.{bags_of, value_of}
+use Rattle.laws_dataflow.specs.Roots.{below_root}
 use Rattle.laws_dataflow.proofs.AnswerLemmas.{query_value}
 use Rattle.laws_queries.specs.Rooms.{HasFewSince}
 use Rattle.laws_queries.specs.Machines.{IsMachine, IsQuery, QueriesStand, widths_of}
 use Rattle.laws_queries.specs.Counts.{count}
 use Rattle.laws_queries.proofs.MachineCounts.{keeps_limit, queries_stand}
 use Rattle.laws_queries.proofs.PlanCounts.{count_is, root_has_room}
-use Rattle.laws_engine.specs.Engines.{GoodEngine, HasGiven, PlainEngine, answers_in, query_at, remains_at}
+use Rattle.laws_engine.specs.Engines.{HasGiven, PlainEngine, answers_in, query_at, remains_at}
+use Rattle.laws_engine.specs.Good.{GoodEngine}
 use Rattle.laws_engine.proofs.AppendedLemmas.{is_query}
 use Rattle.laws_engine.proofs.PromiseLemmas.{remains_given}
 use Rattle.laws_engine.specs.Bounds.{HasFewEarlier, HaveFewClosed, instants}

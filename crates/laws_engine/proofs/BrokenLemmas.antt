@@ -9,7 +9,7 @@ use Rattle.reference.specs.Machine.{Machine, Registered, closed_answers}
 use Rattle.reference.specs.World.{untaken}
 use Rattle.reference.proofs.ClosedLemmas.{AreLater, appended_later, closed_grow, closed_later, pushed_later}
 use Rattle.reference.proofs.StreamLemmas.{alone}
-use Rattle.laws_queries.specs.Queries.{PlainQuery}
+use Rattle.laws_queries.specs.Plain.{PlainQuery}
 use Rattle.laws_queries.proofs.BeatLemmas.{same_number}
 use Rattle.laws_engine.specs.Calls.{remains_after}
 use Rattle.laws_engine.specs.Engines.{Broken, Dropped, PlainEngine, PlainRemains, Running, answers_in, remains_at}

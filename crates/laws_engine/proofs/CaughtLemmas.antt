@@ -7,8 +7,9 @@ use Rattle.plan.proofs.Lists.{each-append}
 use Rattle.std.proofs.lemmas.Bool.{eqb-true}
 use Rattle.values.specs.Window.{Window}
 use Rattle.reference.specs.Machine.{Place, Registered, Stream, opens, until_for}
-use Rattle.laws_queries.specs.Queries.{PlainQuery}
-use Rattle.laws_engine.specs.Engines.{Broken, Dropped, GoodEngine, PlainEngine, PlainRemains, Running, next_of}
+use Rattle.laws_queries.specs.Plain.{PlainQuery}
+use Rattle.laws_engine.specs.Engines.{Broken, Dropped, PlainEngine, PlainRemains, Running, next_of}
+use Rattle.laws_engine.specs.Good.{GoodEngine}
 use Rattle.laws_engine.specs.Openings.{marks_by}
 use Rattle.needed_rows.specs.Needed.{PlainReader}
 use Rattle.needed_rows.specs.Queries.{AreCaughtUp, reader_at, readers_of, readers_over}

@@ -18,7 +18,8 @@ use Rattle.cql_reader.specs.Tokens.{Token}
 use Rattle.cql_reader.specs.Fault.{Fault}
 use Rattle.cql_reader.specs.Query.{Query, WrittenCondition, Compared, Not, And, Or, WrittenOperand}
 use Rattle.cql_reader.specs.Grammar.{Among, Draft, Strict, alternatives, allowed, deepens, did, in_range, last_standing, may_open, negated, conjoined, disjoined, took, Derives, nothing, read, emit, rule}
-use Rattle.cql_reader.specs.Reading.{IsAnswer, reading}
+use Rattle.cql_reader.specs.Reading.{IsAnswer}
+use Rattle.cql_reader.specs.Judging.{reading}
 use Rattle.cql_reader.proofs.OneAnswer.{reading_right}
 use Rattle.names.specs.Matches.{Table}
 use Rattle.names.specs.Resolved.{condition_of}

@@ -8,7 +8,7 @@ use Rattle.std.proofs.lemmas.List.{get_or_past, length-map}
 use Rattle.values.specs.Row.{Row}
 use Rattle.values.specs.Window.{input_of}
 use Rattle.values.specs.Answers.{shown_at}
-use Rattle.operators.specs.Operators.{PlainOperator, ready}
+use Rattle.operators.specs.Ready.{PlainOperator, ready}
 use Rattle.plan.specs.Nodes as plan
 use Rattle.plan.specs.Nodes.{Window, Select, Join, Project, Group, Distinct, ToStream}
 use Rattle.plan.specs.Scope.{Tables}
@@ -19,11 +19,13 @@ use Rattle.stream_store.specs.Closing.{closed_of}
 use Rattle.laws_dataflow.specs.Laws.{IsGood}
 use Rattle.laws_dataflow.specs.Nets.{Cell}
 use Rattle.laws_dataflow.specs.Operators.{net_of}
-use Rattle.laws_dataflow.specs.Plans.{below_root, comes, inputs_of, value_in, world_by, world_of}
+use Rattle.laws_dataflow.specs.Plans.{comes, inputs_of, value_in, world_by, world_of}
+use Rattle.laws_dataflow.specs.Roots.{below_root}
 use Rattle.laws_dataflow.specs.Queries.{GoodQuery}
 use Rattle.laws_queries.specs.Counts.{AreFew, StaysWithin, most_rows}
 use Rattle.laws_queries.specs.Machines.{IsQuery, columns_of, widths_of}
-use Rattle.laws_queries.specs.Queries.{HasInboxes, IsRunning, RunsAt, log_at, no_log, node_at, operator_at, place_of, source_of}
+use Rattle.laws_queries.specs.Queries.{HasInboxes, IsRunning, RunsAt}
+use Rattle.laws_queries.specs.Plain.{log_at, no_log, node_at, operator_at, place_of, source_of}
 use Rattle.laws_queries.specs.Runs.{Runs, RunsRoot}
 use Rattle.laws_queries.specs.Steps.{IsFirst}
 use Rattle.laws_queries.specs.Widths.{width_at}
@@ -31,7 +33,9 @@ use Rattle.laws_queries.proofs.MachineCounts.{machines_stand}
 use Rattle.laws_queries.proofs.QueryLemmas.{same_count}
 use Rattle.laws_queries.proofs.RowLemmas.{rows_stand}
 use Rattle.run_queue.specs.Slots.{slot}
-use Rattle.laws_engine.specs.Engines.{AreRemains, Broken, Dropped, GoodEngine, HasGiven, IsLease, Lease, PlainEngine, PlainRemains, Running, is_leased, query_at, remains_at, slope_at, slot_in, slot_of}
+use Rattle.laws_engine.specs.Engines.{Broken, Dropped, HasGiven, Lease, PlainEngine, PlainRemains}
+use Rattle.laws_engine.specs.Engines.{Running, is_leased, query_at, remains_at, slope_at}
+use Rattle.laws_engine.specs.Good.{AreRemains, GoodEngine, IsLease, slot_in, slot_of}
 use Rattle.laws_engine.specs.Calls.{declared}
 use Rattle.laws_engine.proofs.AppendedLemmas.{is_query}
 use Rattle.laws_engine.proofs.TakeLemmas.{equal_slots}

@@ -5,14 +5,16 @@ use Rattle.values.specs.Row.{Row}
 use Rattle.reference.specs.Commands.{Drop, change, first_fault}
 use Rattle.reference.specs.Commands as machine
 use Rattle.reference.specs.Machine.{Machine, Registered}
-use Rattle.laws_queries.specs.Queries.{operator_at}
+use Rattle.laws_queries.specs.Plain.{operator_at}
 use Rattle.laws_queries.specs.Steps.{IsFirst}
 use Rattle.laws_queries.proofs.BeatLemmas.{same_number}
 use Rattle.laws_queries.proofs.MachineCounts.{machines_stand}
 use Rattle.laws_queries.proofs.RowLemmas.{rows_stand}
-use Rattle.laws_engine.specs.Engines.{AreRemains, Dropped, GoodEngine, HasGiven, IsLease, Lease, PlainEngine, PlainRemains, answers_in, query_at, remains_at, slot_in, slot_of}
+use Rattle.laws_engine.specs.Engines.{Dropped, HasGiven, Lease, PlainEngine, PlainRemains}
+use Rattle.laws_engine.specs.Engines.{answers_in, query_at, remains_at}
+use Rattle.laws_engine.specs.Good.{AreRemains, GoodEngine, IsLease, slot_in, slot_of}
 use Rattle.laws_engine.specs.Calls.{dropped, of_others, with_queries}
-use Rattle.run_queue.specs.Slots.{without_query}
+use Rattle.run_queue.specs.Changes.{without_query}
 use Rattle.laws_engine.proofs.AgainLemmas.{log_again}
 use Rattle.laws_engine.proofs.BackLemmas.{left_apart, numbered}
 use Rattle.laws_engine.proofs.LeaseLemmas.{any_of_others, other_turn}

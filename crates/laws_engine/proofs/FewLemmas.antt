@@ -9,7 +9,8 @@ use Rattle.plan.proofs.Lists.{each-append, each-left, each-right}
 use Rattle.reference.specs.Machine.{Machine, Registered, answers_from, input_at, until_for}
 use Rattle.reference.specs.Opening.{all_restarted, needs_by, restart}
 use Rattle.laws_dataflow.specs.Laws as nets
-use Rattle.laws_dataflow.specs.Plans.{bags_of, below_root, value_of}
+use Rattle.laws_dataflow.specs.Plans.{bags_of, value_of}
+use Rattle.laws_dataflow.specs.Roots.{below_root}
 use Rattle.laws_dataflow.proofs.AnswerLemmas.{query_value}
 use Rattle.laws_queries.specs.Rooms.{HasFewSince}
 use Rattle.laws_queries.specs.Machines.{IsMachine, IsQuery, QueriesStand, widths_of}
@@ -17,7 +18,9 @@ use Rattle.laws_queries.specs.Counts.{count}
 use Rattle.laws_queries.proofs.MachineCounts.{keeps_limit, queries_stand}
 use Rattle.laws_queries.proofs.PlanCounts.{count_is, root_has_room}
 use Rattle.laws_engine.specs.Bounds.{HasFewEarlier, HaveFewClosed, instants}
-use Rattle.laws_engine.specs.Engines.{Broken, Dropped, GoodEngine, HasGiven, PlainEngine, PlainRemains, Running, answers_in, query_at, remains_at}
+use Rattle.laws_engine.specs.Engines.{Broken, Dropped, HasGiven, PlainEngine, PlainRemains, Running}
+use Rattle.laws_engine.specs.Engines.{answers_in, query_at, remains_at}
+use Rattle.laws_engine.specs.Good.{GoodEngine}
 use Rattle.laws_engine.specs.Openings.{forgotten, mark_in, marks_by}
 use Rattle.laws_engine.proofs.AnswerLemmas.{answers_are_few, answers_lie_below}
 use Rattle.laws_engine.proofs.AppendedLemmas.{is_query}

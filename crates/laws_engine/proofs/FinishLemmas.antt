@@ -10,25 +10,28 @@ use Rattle.op_queue.specs.Items.{entries_of}
 use Rattle.op_queue.specs.Logs.{Closed}
 use Rattle.op_queue.specs.declared.item.Item.{Item}
 use Rattle.turn.specs.Turns.{Answered}
-use Rattle.operators.specs.Inboxes.{entries_in, is_fed, queued}
-use Rattle.operators.specs.Operators.{IsFed, PlainOperator, inbox_of, waiting}
-use Rattle.operators.specs.States.{usable}
+use Rattle.operators.specs.Inboxes.{is_fed, queued}
+use Rattle.operators.specs.Operators.{IsFed}
+use Rattle.operators.specs.Ready.{PlainOperator, entries_in, inbox_of, usable, waiting}
 use Rattle.operators.specs.declared.inboxes.Inbox.{Inbox}
 use Rattle.operators.specs.declared.inboxes.Inbox.TheVariants.{First, Between}
 use Rattle.physical_plans.specs.Wiring.{wire_from}
 use Rattle.plan.proofs.Lists.{by_test}
 use Rattle.reference.specs.Machine.{Registered}
-use Rattle.laws_dataflow.specs.Plans.{below_root}
+use Rattle.laws_dataflow.specs.Roots.{below_root}
 use Rattle.laws_queries.specs.Laws.{RootsRun, TurnsRun}
 use Rattle.laws_queries.specs.Machines.{IsQuery, widths_of}
-use Rattle.laws_queries.specs.Queries.{IsRunning, MayFeed, PlainQuery, log_at, operator_at}
+use Rattle.laws_queries.specs.Queries.{IsRunning, MayFeed}
+use Rattle.laws_queries.specs.Plain.{PlainQuery, log_at, operator_at}
 use Rattle.laws_queries.specs.Rooms.{IsBounded}
 use Rattle.laws_queries.specs.Steps.{IsFirst, outs_at_first}
 use Rattle.laws_queries.proofs.MachineCounts.{keeps_limit, queries_stand}
 use Rattle.laws_queries.proofs.NodeLemmas.{roots_run, turns_run}
 use Rattle.laws_queries.proofs.WireLemmas.{Wired, wired}
 use Rattle.run_queue.specs.declared.slots.Slot.{Slot}
-use Rattle.laws_engine.specs.Engines.{AreRemains, Dropped, Goes, GoodEngine, HasSlots, IsIn, IsLease, Lease, PlainEngine, Running, next_at, query_at, remains_at, slot_at, slot_in, slot_of}
+use Rattle.laws_engine.specs.Engines.{Dropped, Lease, PlainEngine, Running, next_at, query_at}
+use Rattle.laws_engine.specs.Engines.{remains_at, slot_at}
+use Rattle.laws_engine.specs.Good.{AreRemains, Goes, GoodEngine, HasSlots, IsIn, IsLease, slot_in, slot_of}
 use Rattle.laws_engine.specs.Calls.{IsAnsweredTurn, IsFinishedTurn, IsOf, abandoned, answered, finished, given_back, others, slot_updated}
 use Rattle.laws_engine.proofs.BackLemmas.{FirstStays, back_good, numbered, remains_here, remains_there, same_leased, same_plain, same_query, stays_same}
 use Rattle.laws_engine.proofs.PromiseLemmas.{slot_is}

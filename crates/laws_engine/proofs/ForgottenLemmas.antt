@@ -3,13 +3,14 @@ use Rattle.std.proofs.Common.{◌≡◌, ℕ, zero, suc, ◌<◌, Option, Some, 
 use Rattle.std.specs.Prelude.{slice_get, unwrap_or}
 use Rattle.std.specs.Option.{option_map}
 use Rattle.column.specs.declared.batch.Side.{Side}
-use Rattle.laws_dataflow.specs.Queries.{behind}
+use Rattle.laws_dataflow.specs.Roots.{behind}
 use Rattle.reference.specs.Machine.{Registered}
 use Rattle.reference.specs.Opening.{restart}
-use Rattle.laws_queries.specs.Queries.{PlainQuery, log_at, operator_at}
-use Rattle.operators.specs.Operators.{waiting}
-use Rattle.operators.specs.States.{last_in}
-use Rattle.laws_engine.specs.Engines.{Dropped, GoodEngine, Goes, PlainRemains, PlainEngine, Running, answers_in, next_of, query_at, remains_at}
+use Rattle.laws_queries.specs.Plain.{PlainQuery, log_at, operator_at}
+use Rattle.operators.specs.Ready.{last_in, waiting}
+use Rattle.laws_engine.specs.Engines.{Dropped, PlainRemains, PlainEngine, Running, answers_in}
+use Rattle.laws_engine.specs.Engines.{next_of, query_at, remains_at}
+use Rattle.laws_engine.specs.Good.{GoodEngine, Goes}
 use Rattle.laws_engine.specs.Openings.{forgotten, mark_in, marks_by}
 use Rattle.laws_engine.proofs.OpenedLemmas.{Marked, goes, opened_good, query_opened, waits_same}
 

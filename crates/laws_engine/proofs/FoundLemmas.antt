@@ -5,7 +5,7 @@ use Rattle.std.specs.List.{AllByRecursion, list_any}
 use Rattle.std.specs.Option.{is_none, option_map_or, unwrap_or}
 use Rattle.cql_reader.specs.Fault as text
 use Rattle.cql_reader.specs.Query as syntax
-use Rattle.cql_reader.specs.Reading.{reading}
+use Rattle.cql_reader.specs.Judging.{reading}
 use Rattle.cql_reader.proofs.WellFormed.{well_formed}
 use Rattle.names.specs.Catalog as catalogs
 use Rattle.names.specs.Catalog.{number_in}

@@ -6,23 +6,23 @@ use Rattle.std.proofs.lemmas.Bool.{cases_lt}
 use Rattle.values.specs.Row.{Row}
 use Rattle.column.specs.declared.batch.Side.{Side}
 use Rattle.column.specs.declared.batch.Side.TheVariants.{Left, Right}
-use Rattle.op_queue.specs.Entries.{Entry}
-use Rattle.op_queue.specs.Items.{front_of}
+use Rattle.op_queue.specs.Entries.{Entry, front_of}
 use Rattle.op_queue.specs.Logs.{Closed}
-use Rattle.operators.specs.Inboxes.{entries_in, is_fed}
-use Rattle.operators.specs.Operators.{PlainOperator, first_ready, front_instant, ready, waiting}
-use Rattle.operators.specs.States.{usable}
+use Rattle.operators.specs.Inboxes.{is_fed}
+use Rattle.operators.specs.Ready.{PlainOperator, entries_in, first_ready, front_instant, ready, usable, waiting}
 use Rattle.operators.specs.declared.inboxes.Inbox.{Inbox}
 use Rattle.operators.proofs.InboxLemmas.{entries_fed}
 use Rattle.plan.specs.Nodes as plan
 use Rattle.plan.specs.Nodes.{Window, Select, Join, Project, Group, Distinct, ToStream}
 use Rattle.reference.specs.Commands.{Heartbeat, change, closed_to, first_fault}
 use Rattle.reference.specs.Machine.{Machine, Registered}
-use Rattle.stream_store.specs.Closing.{QueuesGain, closed_of}
+use Rattle.stream_store.specs.Closing.{closed_of}
+use Rattle.stream_store.specs.Gains.{QueuesGain}
 use Rattle.stream_store.specs.Stored.{IsByArrival}
-use Rattle.laws_dataflow.specs.Plans.{below_root}
+use Rattle.laws_dataflow.specs.Roots.{below_root}
 use Rattle.laws_queries.specs.Machines.{widths_of}
-use Rattle.laws_queries.specs.Queries.{HasInboxes, IsRunning, PlainQuery, elements_at, log_at, no_log, node_at, operator_at, place_of, source_of, stream_log}
+use Rattle.laws_queries.specs.Queries.{HasInboxes, IsRunning, elements_at}
+use Rattle.laws_queries.specs.Plain.{PlainQuery, log_at, no_log, node_at, operator_at, place_of, source_of, stream_log}
 use Rattle.laws_queries.proofs.AppendLemmas.{accepted_later}
 use Rattle.laws_queries.proofs.BeatLemmas.{change_there, place_beat}
 use Rattle.laws_queries.proofs.LeaseLemmas.{leases_stand_first}
@@ -30,7 +30,9 @@ use Rattle.laws_queries.proofs.MachineCounts.{machines_stand}
 use Rattle.laws_queries.proofs.RowLemmas.{rows_stand}
 use Rattle.run_queue.specs.Slots.{slot}
 use Rattle.run_queue.specs.declared.slots.Slot.{Slot}
-use Rattle.laws_engine.specs.Engines.{AreRemains, Broken, Dropped, Goes, GoodEngine, HasSlots, IsLease, Lease, PlainEngine, PlainRemains, Running, is_leased, next_at, query_at, remains_at, slope_at, slot_at, slot_in, slot_of}
+use Rattle.laws_engine.specs.Engines.{Broken, Dropped, Lease, PlainEngine, PlainRemains, Running}
+use Rattle.laws_engine.specs.Engines.{is_leased, next_at, query_at, remains_at, slope_at, slot_at}
+use Rattle.laws_engine.specs.Good.{AreRemains, Goes, GoodEngine, HasSlots, IsLease, slot_in, slot_of}
 use Rattle.laws_engine.specs.Calls.{IsHeartbeat, closed_over, heartbeat_taken, is_reading, queries_updated, query_updated, slot_updated, windows_updated}
 use Rattle.laws_engine.proofs.BackLemmas.{numbered}
 use Rattle.laws_engine.proofs.PromiseLemmas.{slot_is}

@@ -5,9 +5,10 @@ use Rattle.reference.specs.Commands.{Append, Command, Declare, Drop, Heartbeat, 
 use Rattle.reference.specs.Machine.{Registered}
 use Rattle.laws_queries.proofs.MachineCounts.{machines_stand}
 use Rattle.laws_queries.proofs.RowLemmas.{rows_stand}
-use Rattle.laws_queries.specs.Queries.{PlainQuery}
+use Rattle.laws_queries.specs.Plain.{PlainQuery}
 use Rattle.run_queue.specs.Slots.{slot_cmp}
-use Rattle.laws_engine.specs.Engines.{GoodEngine, IsIn, Lease, PlainEngine}
+use Rattle.laws_engine.specs.Engines.{Lease, PlainEngine}
+use Rattle.laws_engine.specs.Good.{GoodEngine, IsIn}
 use Rattle.laws_engine.specs.Histories.{Abandons, Breaks, Call, ComesBack, Finishes, Forgets, IsCallStep, IsCommandStep, LeadTo, Leases, Stays, Told, empty}
 use Rattle.laws_engine.specs.Promises.{KeepsItsPromises}
 use Rattle.laws_engine.proofs.AppendedLemmas.{append_good}

@@ -3,10 +3,13 @@ use Rattle.std.proofs.Common.{◌≡◌, ℕ, zero, suc, ◌++◌, false, max, N
 use Rattle.values.specs.Row.{Row}
 use Rattle.reference.specs.Machine.{Registered, until_for}
 use Rattle.laws_queries.specs.Machines.{widths_of}
-use Rattle.laws_queries.specs.Queries.{NoneReady, PlainQuery}
+use Rattle.laws_queries.specs.Queries.{NoneReady}
+use Rattle.laws_queries.specs.Plain.{PlainQuery}
 use Rattle.laws_queries.proofs.ReadyLemmas.{running_reached}
 use Rattle.run_queue.specs.Slots.{first_of}
-use Rattle.laws_engine.specs.Engines.{GoodEngine, Goes, PlainEngine, Running, is_leased, next_at, next_of, query_at, ready_in, remains_at}
+use Rattle.laws_engine.specs.Engines.{PlainEngine, Running, is_leased, next_at, next_of, query_at}
+use Rattle.laws_engine.specs.Engines.{ready_in, remains_at}
+use Rattle.laws_engine.specs.Good.{GoodEngine, Goes}
 use Rattle.laws_engine.specs.Promises.{HasAllWaiting, HasGivenAll, KeepsItsPromises}
 use Rattle.laws_engine.proofs.MarkLemmas.{goes, opens_next}
 use Rattle.laws_engine.proofs.PromiseLemmas.{keeps_its_promises}

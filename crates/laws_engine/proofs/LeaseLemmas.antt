@@ -5,9 +5,11 @@ use Rattle.std.proofs.lemmas.List.{length-set}
 use Rattle.std.proofs.lemmas.Option.{slice_get_within}
 use Rattle.plan.proofs.Lists.{by_test}
 use Rattle.reference.specs.Machine.{Registered}
-use Rattle.laws_queries.specs.Queries.{PlainQuery}
+use Rattle.laws_queries.specs.Plain.{PlainQuery}
 use Rattle.run_queue.specs.declared.slots.Slot.{Slot}
-use Rattle.laws_engine.specs.Engines.{AreApart, AreRemains, Broken, Goes, GoodEngine, HasGiven, HasSlots, IsIn, IsLease, Lease, PlainEngine, Running, is_leased, is_of, next_at, query_at, remains_at, slot_at, slot_in, slot_of, upto_at}
+use Rattle.laws_engine.specs.Engines.{Broken, HasGiven, Lease, PlainEngine, Running, is_leased}
+use Rattle.laws_engine.specs.Engines.{is_of, next_at, query_at, remains_at, slot_at}
+use Rattle.laws_engine.specs.Good.{AreApart, AreRemains, Goes, GoodEngine, HasSlots, IsIn, IsLease, slot_in, slot_of, upto_at}
 use Rattle.laws_engine.specs.Orders.{IsReady}
 use Rattle.laws_engine.specs.Promises.{IsOfSteepest}
 use Rattle.laws_engine.specs.Calls.{IsLeasable, broken, given_out, leased, of_others, slot_updated}

@@ -7,20 +7,22 @@ use Rattle.values.specs.Row.{Row, row_cmp}
 use Rattle.values.specs.Window.{Element}
 use Rattle.values.specs.Bag.{bag_minus, in_order, insert_in_order, is_above, is_same, without}
 use Rattle.values.specs.Answers.{Dstream, Istream, StreamOperator, Rstream, streamed}
-use Rattle.values.specs.Resolved.{operator_of}
+use Rattle.values.specs.StreamOperators.{operator_of}
 use Rattle.plan.proofs.Lists.{each-append, each-left, each-right}
 use Rattle.reference.specs.Machine.{Registered, Stream, answers_from, input_at, until_for}
 use Rattle.reference.specs.Opening.{restart, with_kept}
 use Rattle.laws_dataflow.specs.Nets.{Cell, at_unary}
-use Rattle.laws_dataflow.specs.Plans.{below_root, value_of}
+use Rattle.laws_dataflow.specs.Plans.{value_of}
+use Rattle.laws_dataflow.specs.Roots.{below_root}
 use Rattle.laws_dataflow.specs.Queries.{before, given_at, given_from}
 use Rattle.laws_queries.specs.Counts.{count}
 use Rattle.laws_queries.specs.Machines.{QueriesStand, widths_of}
-use Rattle.laws_queries.specs.Queries.{PlainQuery}
+use Rattle.laws_queries.specs.Plain.{PlainQuery}
 use Rattle.laws_queries.proofs.MachineCounts.{keeps_limit, queries_stand}
 use Rattle.laws_queries.proofs.PlanCounts.{count_is, root_has_room}
 use Rattle.laws_engine.specs.Bounds.{HasFewClosed, HasFewEarlier, instants}
-use Rattle.laws_engine.specs.Engines.{GoodEngine, Goes, HasGiven, PlainEngine, Running, next_of, query_at, remains_at}
+use Rattle.laws_engine.specs.Engines.{HasGiven, PlainEngine, Running, next_of, query_at, remains_at}
+use Rattle.laws_engine.specs.Good.{GoodEngine, Goes}
 use Rattle.laws_engine.proofs.AnswerLemmas.{answers_lie_below}
 use Rattle.laws_engine.proofs.AppendedLemmas.{is_query}
 use Rattle.laws_engine.proofs.InstantLemmas.{until_few}

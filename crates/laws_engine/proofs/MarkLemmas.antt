@@ -8,15 +8,16 @@ use Rattle.laws_dataflow.specs.Laws.{IsGood}
 use Rattle.laws_dataflow.specs.Laws as nets
 use Rattle.laws_dataflow.specs.Nets.{Cell}
 use Rattle.laws_dataflow.specs.Operators.{net_of}
-use Rattle.laws_dataflow.specs.Plans.{below_root, consumer_of, least_of, value_of, world_of}
-use Rattle.laws_dataflow.specs.Queries.{behind}
+use Rattle.laws_dataflow.specs.Plans.{consumer_of, least_of, value_of, world_of}
+use Rattle.laws_dataflow.specs.Roots.{behind, below_root}
 use Rattle.laws_dataflow.proofs.AnswerLemmas.{query_laid, query_least, query_planned, shaped}
 use Rattle.laws_dataflow.proofs.ForgetLemmas.{opens_ahead}
 use Rattle.laws_dataflow.proofs.IdleLemmas.{all_below}
 use Rattle.laws_queries.specs.Machines.{widths_of}
-use Rattle.laws_queries.specs.Queries.{PlainQuery}
-use Rattle.laws_engine.specs.Engines.{AreRemains, GoodEngine, Goes, PlainEngine, Running, next_of, query_at, remains_at}
-use Rattle.operators.specs.States.{last_in}
+use Rattle.laws_queries.specs.Plain.{PlainQuery}
+use Rattle.laws_engine.specs.Engines.{PlainEngine, Running, next_of, query_at, remains_at}
+use Rattle.laws_engine.specs.Good.{AreRemains, GoodEngine, Goes}
+use Rattle.operators.specs.Ready.{last_in}
 
 module _ (vs : List ℕ) (m : Machine) (q : Registered) (st : nets.Stands vs m q) (cells : ℕ → Cell) (s : State) (queue : List (Entry Row)) (given : List (ℕ × Row)) (g : IsGood m q cells s queue given) where
   pub mark_reached : g.root.opens ≤ max q.first (until_for m.streams q.places)

@@ -27,10 +27,7 @@ or_none false b h = (refl, h)
 
 -- WINDOWS
 window_text : (t : Table) (w : syntax.WrittenWindow) → IsGoodWindow w → nat_lt MAX_COLUMNS (length (partition_of w)) ≡ false → IsTextWindow (window_of t w)
-window_text t syntax.Now g h = tt
-window_text t (syntax.Range instants) g h = tt
-window_text t (syntax.RangeSlide instants step) g h = omega (arith, g.1.0)
-window_text t syntax.Unbounded g h = tt
+window_text t (syntax.Instants reach) g h = tt
 window_text t (syntax.Rows rows) g h = omega arith
 window_text t (syntax.Partition by rows) g h = omega (arith, ltb-false MAX_COLUMNS (length by) h, length-map by (place_in t))
 

@@ -6,14 +6,14 @@ use Rattle.std.specs.List.{AllByRecursion}
 use Rattle.std.specs.Option.{option_map, option_map_or}
 use Rattle.std.proofs.lemmas.Bool.{eq-eqb}
 use Rattle.values.specs.Row.{Row}
-use Rattle.values.specs.Window.{Element, Window, Unbounded}
+use Rattle.values.specs.Window.{Element, Window}
+use Rattle.values.specs.Plain.{unbounded}
 use Rattle.values.specs.Needs.{is_needed}
 use Rattle.column.specs.declared.batch.Side.{Side}
 use Rattle.column.specs.declared.batch.Side.TheVariants.{Left, Right}
 use Rattle.op_queue.specs.Logs.{Closed}
-use Rattle.operators.specs.Operators.{PlainOperator, first_ready, front_instant, ready, waiting}
-use Rattle.operators.specs.States.{usable}
-use Rattle.op_queue.specs.Items.{front_of}
+use Rattle.operators.specs.Ready.{PlainOperator, first_ready, front_instant, ready, usable, waiting}
+use Rattle.op_queue.specs.Entries.{front_of}
 use Rattle.plan.proofs.Lists.{each-filter}
 use Rattle.reference.specs.Machine.{Place, Registered, Stream, input_at}
 use Rattle.reference.specs.Opening.{all_instants, all_restarted, needs, needs_by, restart, restarted, with_kept}
@@ -23,14 +23,17 @@ use Rattle.reference.specs.Commands.{rows_of_each}
 use Rattle.laws_dataflow.specs.Plans.{IsPlanOf, arrivals_at}
 use Rattle.laws_queries.specs.Machines.{IsMachine, IsQuery, IsStream, KeepsItsLimit, columns_of, widths_of}
 use Rattle.stream_store.proofs.KeptLemmas.{by_arrival_filter}
-use Rattle.laws_queries.specs.Queries.{IsRunning, PlainQuery, log_at, operator_at, place_of}
+use Rattle.laws_queries.specs.Queries.{IsRunning}
+use Rattle.laws_queries.specs.Plain.{PlainQuery, log_at, operator_at, place_of}
 use Rattle.laws_queries.specs.Rows.{HasRows}
 use Rattle.laws_queries.specs.Forgetting.{KeepsFor}
 use Rattle.laws_queries.proofs.ForgetLemmas.{forgetting_runs, kept_stream, stream_kept, waits_kept}
 use Rattle.laws_queries.proofs.HeartbeatLemmas.{input_at_source}
 use Rattle.laws_queries.proofs.MachineCounts.{queries_stand}
 use Rattle.run_queue.specs.Slots.{slot}
-use Rattle.laws_engine.specs.Engines.{Broken, Dropped, GoodEngine, Goes, AreRemains, IsLease, PlainRemains, Lease, PlainEngine, Running, answers_in, is_leased, remains_at, query_at, slope_at, slot_in, slot_of}
+use Rattle.laws_engine.specs.Engines.{Broken, Dropped, PlainRemains, Lease, PlainEngine, Running}
+use Rattle.laws_engine.specs.Engines.{answers_in, is_leased, remains_at, query_at, slope_at}
+use Rattle.laws_engine.specs.Good.{GoodEngine, Goes, AreRemains, IsLease, slot_in, slot_of}
 use Rattle.laws_engine.specs.Openings.{opened}
 use Rattle.laws_engine.proofs.AppendedLemmas.{is_query}
 use Rattle.laws_engine.proofs.TakeLemmas.{equal_slots}
@@ -50,7 +53,7 @@ and_both false b h k = cc
 
 -- WHAT A QUERY NEEDS is kept
 needs_there : (streams : List Stream) (q : Registered) (next s : ℕ) (ws : List Window) (ps : List Place) (k : ℕ) (e : Element) (d : Place) → k < length ps → k < length ws → (get_or ps k d).stream ≡ s
-    → (nat_le (get_or ps k d).arrivals e.arrival && nat_le q.first e.instant) ≡ true → is_needed q.first (get_or ws k Unbounded) next (input_at streams q.first (get_or ps k d)) e ≡ true → needs streams q next s ws ps e ≡ true
+    → (nat_le (get_or ps k d).arrivals e.arrival && nat_le q.first e.instant) ≡ true → is_needed q.first (get_or ws k unbounded) next (input_at streams q.first (get_or ps k d)) e ≡ true → needs streams q next s ws ps e ≡ true
 needs_there streams q next s [] ps k e d l j i c n = absurd (omega (arith, j))
 needs_there streams q next s (w ∷ ws) [] k e d l j i c n = absurd (omega (arith, l))
 needs_there streams q next s (w ∷ ws) (p ∷ ps) zero e d l j i c n = or_left _ _ (and_both (p.stream == s) _ (eq-eqb p.stream s i) (and_both (nat_le p.arrivals e.arrival && nat_le q.first e.instant) _ c n))
@@ -214,7 +217,7 @@ module _ (e : PlainEngine) (g : GoodEngine e) (marks : List (Option ℕ)) (long 
           let windows : length q.meaning.windows ≡ length q.places = is.plan.scoped.sources ∙ length-map q.places (λ (p : Place). columns_of e.machine.streams p.stream) in
           needs_by_there e.machine.streams e.machine.queries marks n q next (place_of q j).stream f r k
           (needs_there e.machine.streams q next (place_of q j).stream q.meaning.windows q.places j f (record { stream = 0; arrivals = 0 }) l (omega (arith, l, windows)) refl c
-          (subst (λ es. is_needed q.first (get_or q.meaning.windows j Unbounded) next es f ≡ true) (input_at_source e.machine q j l) need));
+          (subst (λ es. is_needed q.first (get_or q.meaning.windows j unbounded) next es f ≡ true) (input_at_source e.machine q j l) need));
     }
 
     machine2 : IsMachine (opened e marks).machine

@@ -6,8 +6,11 @@ use Rattle.std.proofs.lemmas.Option.{slice_get_within}
 use Rattle.plan.proofs.Lists.{by_test}
 use Rattle.reference.specs.Machine.{Registered, closed_answers, until_for}
 use Rattle.reference.specs.World.{World}
-use Rattle.laws_queries.specs.Queries.{PlainQuery}
-use Rattle.laws_engine.specs.Engines.{Broken, Dropped, GoodEngine, Lease, PlainEngine, PlainRemains, Running, answers_in, is_leased, is_of, next_of, query_at, remains_at, upto_by, upto_in, world_of}
+use Rattle.laws_queries.specs.Plain.{PlainQuery}
+use Rattle.laws_engine.specs.Engines.{Broken, Dropped, Lease, PlainEngine, PlainRemains, Running}
+use Rattle.laws_engine.specs.Engines.{answers_in, is_leased, is_of, next_of, query_at, remains_at}
+use Rattle.laws_engine.specs.Engines.{upto_by, upto_in, world_of}
+use Rattle.laws_engine.specs.Good.{GoodEngine}
 use Rattle.laws_engine.specs.Histories.{ComesBack, Finishes, IsCallStep}
 use Rattle.laws_engine.specs.Orders.{ComesHome, GoesOut, IsStep, LeadBy, LeaveOneWorld, Passes, SameKind, SameKinds, Step}
 use Rattle.laws_engine.specs.Passing.{HasPassed}

@@ -6,10 +6,12 @@ use Rattle.std.proofs.lemmas.Option.{slice_get_within}
 use Rattle.plan.proofs.Lists.{by_test}
 use Rattle.reference.specs.Machine.{Registered}
 use Rattle.laws_queries.specs.Machines.{widths_of}
-use Rattle.laws_queries.specs.Queries.{IsRunning, PlainQuery}
+use Rattle.laws_queries.specs.Queries.{IsRunning}
+use Rattle.laws_queries.specs.Plain.{PlainQuery}
 use Rattle.laws_queries.proofs.StillLemmas.{query_runs_on}
 use Rattle.run_queue.specs.declared.slots.Slot.{Slot}
-use Rattle.laws_engine.specs.Engines.{AreRemains, Goes, GoodEngine, HasSlots, IsIn, IsLease, Lease, PlainEngine, Running, is_of, query_at, remains_at, slot_of}
+use Rattle.laws_engine.specs.Engines.{Lease, PlainEngine, Running, is_of, query_at, remains_at}
+use Rattle.laws_engine.specs.Good.{AreRemains, Goes, GoodEngine, HasSlots, IsIn, IsLease, slot_of}
 use Rattle.laws_engine.specs.Passing.{HasPassed, with_passed}
 use Rattle.laws_engine.proofs.BackLemmas.{remains_here, remains_there, same_query}
 use Rattle.laws_engine.proofs.FinishLemmas.{query_bounded}

@@ -9,12 +9,17 @@ use Rattle.envelope.specs.Fraction.{NoGreater}
 use Rattle.plan.proofs.Lists.{by_test}
 use Rattle.reference.specs.Machine.{Machine, Registered}
 use Rattle.laws_queries.specs.Machines.{widths_of}
-use Rattle.laws_queries.specs.Queries.{NoneReady, PlainQuery}
+use Rattle.laws_queries.specs.Queries.{NoneReady}
+use Rattle.laws_queries.specs.Plain.{PlainQuery}
 use Rattle.laws_queries.proofs.NodeLemmas.{gives_its_answers}
-use Rattle.run_queue.specs.Slots.{AreIdle, IsSteepest, first_of, slot_cmp}
+use Rattle.run_queue.specs.Slots.{first_of, slot_cmp}
+use Rattle.run_queue.specs.Changes.{AreIdle, IsSteepest}
 use Rattle.run_queue.specs.declared.slots.Slot.{Slot}
 use Rattle.run_queue.proofs.FirstLemmas.{first_is_steepest}
-use Rattle.laws_engine.specs.Engines.{AreRemains, Broken, Dropped, Goes, GoodEngine, HasGiven, IsIn, PlainEngine, PlainRemains, Running, answers_in, is_leased, next_at, query_at, ready_in, remains_at, slope_at, slot_at, slot_in, slot_of}
+use Rattle.laws_engine.specs.Engines.{Broken, Dropped, HasGiven, PlainEngine, PlainRemains, Running}
+use Rattle.laws_engine.specs.Engines.{answers_in, is_leased, next_at, query_at, ready_in}
+use Rattle.laws_engine.specs.Engines.{remains_at, slope_at, slot_at}
+use Rattle.laws_engine.specs.Good.{AreRemains, Goes, GoodEngine, IsIn, slot_in, slot_of}
 use Rattle.laws_engine.specs.Promises.{GivesAll, GivesBeginnings, KeepsItsPromises, LeasesSteepest, TellsIdleness}
 
 -- WHAT WAS GIVEN

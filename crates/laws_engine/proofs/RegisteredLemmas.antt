@@ -6,16 +6,18 @@ use Rattle.std.proofs.lemmas.Option.{slice_get_past, slice_get_within}
 use Rattle.plan.specs.Nodes as plan
 use Rattle.reference.specs.Commands.{Register}
 use Rattle.reference.specs.Machine.{Registered}
-use Rattle.laws_queries.specs.Queries.{PlainQuery, operator_at}
+use Rattle.laws_queries.specs.Plain.{PlainQuery, operator_at}
 use Rattle.laws_queries.specs.Steps.{IsFirst}
 use Rattle.laws_queries.specs.Machines.{IsMachine}
 use Rattle.laws_queries.specs.Rows.{HaveRows}
 use Rattle.laws_queries.proofs.BeatLemmas.{same_number}
 use Rattle.laws_queries.proofs.MachineCounts.{machines_stand}
 use Rattle.laws_queries.proofs.RowLemmas.{rows_stand}
-use Rattle.run_queue.specs.Slots.{put}
+use Rattle.run_queue.specs.Changes.{put}
 use Rattle.run_queue.specs.declared.slots.Slot.{Slot}
-use Rattle.laws_engine.specs.Engines.{AreRemains, Dropped, Goes, GoodEngine, HasSlots, IsLease, Lease, PlainEngine, PlainRemains, Running, query_at, remains_at, slot_at, slot_in, slot_of}
+use Rattle.laws_engine.specs.Engines.{Dropped, Lease, PlainEngine, PlainRemains, Running, query_at}
+use Rattle.laws_engine.specs.Engines.{remains_at, slot_at}
+use Rattle.laws_engine.specs.Good.{AreRemains, Goes, GoodEngine, HasSlots, IsLease, slot_in, slot_of}
 use Rattle.laws_engine.specs.Calls.{IsRegistration, registered, with_query, with_slots}
 use Rattle.laws_engine.proofs.AgainLemmas.{log_again}
 use Rattle.laws_engine.proofs.BackLemmas.{same_query}

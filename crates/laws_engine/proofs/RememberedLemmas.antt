@@ -12,12 +12,15 @@ use Rattle.laws_forgetting.proofs.CommandLemmas.{commands_partly}
 use Rattle.laws_forgetting.proofs.EquivalenceLemmas.{partly_joined}
 use Rattle.laws_forgetting.proofs.FaultLemmas.{faults_same}
 use Rattle.laws_forgetting.proofs.PartlyLemmas.{alike_of_fewer, ends_partly}
-use Rattle.laws_queries.specs.Queries.{PlainQuery}
+use Rattle.laws_queries.specs.Plain.{PlainQuery}
 use Rattle.laws_queries.proofs.BeatLemmas.{same_number}
-use Rattle.laws_engine.specs.Engines.{AreRemains, Broken, Dropped, GoodEngine, Goes, HasGiven, Lease, PlainEngine, PlainRemains, Running, query_at, remains_at, upto_at}
+use Rattle.laws_engine.specs.Engines.{Broken, Dropped, HasGiven, Lease, PlainEngine, PlainRemains}
+use Rattle.laws_engine.specs.Engines.{Running, query_at, remains_at}
+use Rattle.laws_engine.specs.Good.{AreRemains, GoodEngine, Goes, upto_at}
 use Rattle.laws_engine.specs.Calls.{remains_after}
 use Rattle.laws_engine.specs.Histories.{Abandons, Breaks, Call, ComesBack, Finishes, Forgets, IsCallStep, IsCommandStep, Leases, Stays, Told, empty}
-use Rattle.laws_engine.specs.Openings.{forgotten, goes_on, is_running}
+use Rattle.laws_engine.specs.Openings.{forgotten}
+use Rattle.laws_engine.specs.Unbroken.{goes_on, is_running}
 use Rattle.laws_engine.specs.Promises.{HasGivenAll, HasNothingToRun}
 use Rattle.laws_engine.specs.Remembered.{GivesAsRemembered, LeadBoth, handed_by, remembered}
 use Rattle.laws_engine.proofs.AlikeLemmas.{forgotten_partly}

@@ -7,11 +7,9 @@ use Rattle.values.specs.Window as values
 use Rattle.values.specs.Window.{Element}
 use Rattle.column.specs.declared.batch.Side.{Side}
 use Rattle.column.specs.declared.batch.Side.TheVariants.{Left, Right}
-use Rattle.op_queue.specs.Entries.{Entry, RowAt, TickAt}
-use Rattle.op_queue.specs.Items.{front_of}
+use Rattle.op_queue.specs.Entries.{Entry, RowAt, TickAt, front_of}
 use Rattle.op_queue.specs.Logs.{Closed}
-use Rattle.operators.specs.Operators.{PlainOperator, first_ready, front_instant, ready, ready_at, waiting}
-use Rattle.operators.specs.States.{usable}
+use Rattle.operators.specs.Ready.{PlainOperator, first_ready, front_instant, ready, ready_at, usable, waiting}
 use Rattle.operators.specs.declared.states.State.{State}
 use Rattle.operators.specs.declared.states.State.TheVariants as state
 use Rattle.plan.specs.Nodes as plan
@@ -19,14 +17,18 @@ use Rattle.plan.specs.Nodes.{Window, Select, Join, Project, Group, Distinct, ToS
 use Rattle.plan.proofs.Lists.{by_test}
 use Rattle.reference.specs.Machine.{Registered}
 use Rattle.laws_dataflow.specs.Nets.{Cell, World, at_join, at_unary, at_window}
-use Rattle.laws_dataflow.specs.Plans.{below_root, world_of}
+use Rattle.laws_dataflow.specs.Plans.{world_of}
+use Rattle.laws_dataflow.specs.Roots.{below_root}
 use Rattle.laws_queries.specs.Machines.{widths_of}
-use Rattle.laws_queries.specs.Queries.{IsRunning, PlainQuery, log_at, node_at, operator_at}
+use Rattle.laws_queries.specs.Queries.{IsRunning}
+use Rattle.laws_queries.specs.Plain.{PlainQuery, log_at, node_at, operator_at}
 use Rattle.laws_queries.specs.Runs.{Runs, WindowStands}
 use Rattle.laws_queries.specs.Widths.{width_at}
 use Rattle.run_queue.specs.Slots.{slot}
 use Rattle.laws_engine.specs.Calls.{IsHeartbeat, closed_over, is_reading}
-use Rattle.laws_engine.specs.Engines.{Broken, Dropped, GoodEngine, PlainEngine, PlainRemains, Running, is_leased, query_at, remains_at, slope_at, slot_in, slot_of}
+use Rattle.laws_engine.specs.Engines.{Broken, Dropped, PlainEngine, PlainRemains, Running}
+use Rattle.laws_engine.specs.Engines.{is_leased, query_at, remains_at, slope_at}
+use Rattle.laws_engine.specs.Good.{GoodEngine, slot_in, slot_of}
 use Rattle.laws_engine.specs.Resting.{IsResting}
 use Rattle.laws_engine.proofs.HeartbeatLemmas.{arrivals, beyond_in, goes_at, inboxes, left_more, quiet_slot}
 use Rattle.laws_engine.proofs.PromiseLemmas.{slot_is}

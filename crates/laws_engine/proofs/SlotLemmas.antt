@@ -7,10 +7,11 @@ use Rattle.std.specs.Ordering.{MatchOrdering, bool_cmp, is_eq, match_ordering, n
 use Rattle.std.specs.declared.cmp.Ordering.{Ordering}
 use Rattle.std.specs.declared.cmp.Ordering.TheVariants.{Less, Equal, Greater}
 use Rattle.plan.proofs.Lists.{by_test}
-use Rattle.run_queue.specs.Slots.{changed, has, put, slot_cmp, with_next, without, without_query}
+use Rattle.run_queue.specs.Slots.{slot_cmp}
+use Rattle.run_queue.specs.Changes.{changed, has, put, with_next, without, without_query}
 use Rattle.run_queue.specs.declared.slots.Slot.{Slot}
 use Rattle.run_queue.proofs.SlotLemmas.{put_ordered, slots_total, without_ordered, without_query_ordered}
-use Rattle.laws_engine.specs.Engines.{HasSlots, IsIn}
+use Rattle.laws_engine.specs.Good.{HasSlots, IsIn}
 
 -- LISTS
 pub in_filter : {X : Type 0} (p : X → Bool) (xs : List X) (x : X) → IsIn (filter p xs) x → IsIn xs x × (p x ≡ true)

@@ -11,14 +11,16 @@ use Rattle.reference.specs.Machine.{Machine, Registered}
 use Rattle.reference.specs.Standing.{found_of}
 use Rattle.reference.specs.declared.fault.QueryFault.{QueryFault}
 use Rattle.laws_queries.specs.Machines.{IsQuery, widths_of}
-use Rattle.laws_queries.specs.Queries.{IsRunning, PlainQuery, source_of}
+use Rattle.laws_queries.specs.Queries.{IsRunning}
+use Rattle.laws_queries.specs.Plain.{PlainQuery, source_of}
 use Rattle.laws_queries.specs.Registrations.{HaveColumnNames, IsCoded, IsFit, IsFresh, IsNewest, MayMake, Starts, lengths_of}
 use Rattle.laws_queries.proofs.MachineCounts.{queries_stand}
 use Rattle.laws_queries.proofs.NewestLemmas.{registrations_stand}
 use Rattle.laws_queries.proofs.StartLemmas.{queries_start}
 use Rattle.query_runtime.specs.Turns.{source_among}
 use Rattle.laws_engine.specs.Calls.{IsRegistration, with_queries}
-use Rattle.laws_engine.specs.Engines.{Goes, GoodEngine, PlainEngine}
+use Rattle.laws_engine.specs.Engines.{PlainEngine}
+use Rattle.laws_engine.specs.Good.{Goes, GoodEngine}
 use Rattle.laws_engine.proofs.AgainLemmas.{runs_again}
 use Rattle.laws_engine.specs.Accepted.{GoodMachine, IsBegun, IsPlanOfText, newest}
 use Rattle.laws_engine.proofs.FoundLemmas.{found_fits, is_found, place_widths}
@@ -43,8 +45,8 @@ found_query m name text chart f sound accepted is =
     let same : one.found_as ≡ f = ok_same one.found_as f (sym one.is ∙ is) in
     subst (λ z. IsFoundQuery m name z) same (record { query = one.query; fresh = one.fresh })
 
--- what an accepted text means fits its sources, whatever it says: each has a column or more, and they have at most MAX_COLUMNS together; a window slides
--- by one or more, and none has a longer list; the condition needs at most 67 truths at a time; and a row of the query has 1 to MAX_COLUMNS columns
+-- what an accepted text means fits its sources, whatever it says: each has a column or more, and they have at most MAX_COLUMNS together; no window
+-- has a longer list; the condition needs at most 67 truths at a time; and a row of the query has 1 to MAX_COLUMNS columns
 pub texts_fit : (m : Machine) (name text : List ℕ) (chart : Option (List (ℤ × ℤ))) (f : Found) → GoodMachine m → first_fault m (Register name text chart) ≡ None → found m text chart ≡ Ok f
     → IsFit (widths_of m.streams (registered_as m name f)) f.meaning
 texts_fit m name text chart f sound accepted is =

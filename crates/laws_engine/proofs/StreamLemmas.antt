@@ -13,12 +13,13 @@ use Rattle.values.proofs.Worlds.{range_split, same_over}
 use Rattle.windows.specs.Laws.{Each}
 use Rattle.reference.specs.Commands.{Append, Heartbeat, after, appended, change, closed_to, first_fault}
 use Rattle.reference.specs.Machine.{Machine, Place, Registered, Stream, answers_from, closed_answers, input_at, until_for}
-use Rattle.stream_store.specs.Closing.{QueuesGain}
+use Rattle.stream_store.specs.Gains.{QueuesGain}
 use Rattle.reference.proofs.StreamLemmas.{alone}
 use Rattle.laws_dataflow.specs.Plans.{inputs_of}
 use Rattle.laws_dataflow.proofs.MachineLemmas.{append_inputs, append_opens, arriving, heartbeat_inputs}
 use Rattle.laws_queries.specs.Machines.{IsMachine, columns_of, widths_of}
-use Rattle.laws_queries.specs.Queries.{IsRunning, PlainQuery, place_of}
+use Rattle.laws_queries.specs.Queries.{IsRunning}
+use Rattle.laws_queries.specs.Plain.{PlainQuery, place_of}
 use Rattle.laws_queries.specs.Rows.{HaveRows}
 use Rattle.laws_queries.proofs.AppendLemmas.{accepted_later, come_option, from_place}
 use Rattle.laws_queries.proofs.BeatLemmas.{IsLaterIn, change_here, change_there, same_number}
@@ -28,7 +29,8 @@ use Rattle.laws_queries.proofs.PlanCounts.{has_short_inputs}
 use Rattle.laws_queries.proofs.RowLemmas.{rows_stand}
 use Rattle.laws_queries.specs.Machines.{IsQuery, KeepsItsLimit}
 use Rattle.laws_dataflow.specs.Laws as nets
-use Rattle.laws_engine.specs.Engines.{AreRemains, Broken, Dropped, Goes, HasGiven, PlainRemains, Running}
+use Rattle.laws_engine.specs.Engines.{Broken, Dropped, HasGiven, PlainRemains, Running}
+use Rattle.laws_engine.specs.Good.{AreRemains, Goes}
 
 -- COLUMNS
 pub columns_changed : (f : Stream → Stream) → ((s : Stream) → length (f s).columns ≡ length s.columns) → (n i : ℕ) (ss : List Stream) → columns_of (change n f ss) i ≡ columns_of ss i

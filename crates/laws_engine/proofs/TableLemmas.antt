@@ -3,11 +3,14 @@ use Rattle.std.proofs.Common.{◌≡◌, ◌≢◌, ℕ, ◌==◌, ◌&&◌, nat
 use Rattle.std.specs.List.{list_any}
 use Rattle.plan.proofs.Lists.{by_test}
 use Rattle.run_queue.specs.Slots.{slot}
-use Rattle.operators.specs.Operators.{ready}
+use Rattle.operators.specs.Ready.{ready}
 use Rattle.reference.specs.Machine.{Registered}
-use Rattle.laws_queries.specs.Queries.{PlainQuery, log_at, operator_at}
+use Rattle.laws_queries.specs.Plain.{PlainQuery, log_at, operator_at}
 use Rattle.run_queue.specs.declared.slots.Slot.{Slot}
-use Rattle.laws_engine.specs.Engines.{Broken, Dropped, Lease, PlainEngine, PlainRemains, Running, is_leased, is_of, query_at, ready_in, remains_at, slope_at, slot_at, slot_in, slot_of}
+use Rattle.laws_engine.specs.Engines.{Broken, Dropped, Lease, PlainEngine, PlainRemains, Running}
+use Rattle.laws_engine.specs.Engines.{is_leased, is_of, query_at, ready_in, remains_at, slope_at}
+use Rattle.laws_engine.specs.Engines.{slot_at}
+use Rattle.laws_engine.specs.Good.{slot_in, slot_of}
 use Rattle.laws_engine.proofs.BackLemmas.{unequal}
 use Rattle.laws_engine.proofs.SlotLemmas.{AreNumbered}
 

@@ -5,18 +5,22 @@ use Rattle.std.specs.List.{list_any}
 use Rattle.std.specs.Option.{option_map}
 use Rattle.values.specs.Row.{Row}
 use Rattle.plan.specs.Nodes as plan
-use Rattle.operators.specs.Operators.{ready}
+use Rattle.operators.specs.Ready.{ready}
 use Rattle.run_queue.specs.Slots.{slot}
 use Rattle.run_queue.specs.declared.slots.Slot.{Slot}
 use Rattle.reference.specs.Commands.{Take, change, took}
 use Rattle.reference.specs.Machine.{Machine, Registered, closed_answers}
 use Rattle.laws_queries.specs.Machines.{widths_of}
-use Rattle.laws_queries.specs.Queries.{IsRunning, PlainQuery, operator_at, source_of}
+use Rattle.laws_queries.specs.Queries.{IsRunning}
+use Rattle.laws_queries.specs.Plain.{PlainQuery, operator_at, source_of}
 use Rattle.laws_queries.specs.Steps.{IsFirst}
 use Rattle.laws_queries.proofs.BeatLemmas.{same_number}
 use Rattle.laws_queries.proofs.MachineCounts.{machines_stand}
 use Rattle.laws_queries.proofs.RowLemmas.{rows_stand}
-use Rattle.laws_engine.specs.Engines.{AreRemains, Broken, Dropped, Goes, GoodEngine, HasGiven, HasSlots, IsLease, Lease, PlainEngine, PlainRemains, Running, answers_in, is_leased, is_of, query_at, ready_in, remains_at, slope_at, slot_at, slot_in, slot_of}
+use Rattle.laws_engine.specs.Engines.{Broken, Dropped, HasGiven, Lease, PlainEngine, PlainRemains}
+use Rattle.laws_engine.specs.Engines.{Running, answers_in, is_leased, is_of, query_at, ready_in}
+use Rattle.laws_engine.specs.Engines.{remains_at, slope_at, slot_at}
+use Rattle.laws_engine.specs.Good.{AreRemains, Goes, GoodEngine, HasSlots, IsLease, slot_in, slot_of}
 use Rattle.laws_engine.specs.Calls.{IsTake, remains_after, taken, with_queries, with_taken}
 use Rattle.laws_engine.proofs.AgainLemmas.{log_again, runs_again, source_again}
 

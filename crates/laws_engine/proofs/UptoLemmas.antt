@@ -8,8 +8,7 @@ use Rattle.values.specs.declared.resolved.Window.{Window}
 use Rattle.plan.specs.declared.node.Node.{Node}
 use Rattle.plan.specs.declared.node.Node.TheVariants.{Window as Source, Select, Join, Project, Group, Distinct, ToStream}
 use Rattle.plan.specs.declared.operators.Plan.{Plan}
-use Rattle.operators.specs.Operators.{PlainOperator}
-use Rattle.operators.specs.States.{last_in}
+use Rattle.operators.specs.Ready.{PlainOperator, last_in}
 use Rattle.operators.specs.declared.states.State.{State}
 use Rattle.physical_plans.specs.Beginnings.{AreMade, StateStarts}
 use Rattle.physical_plans.specs.Beginnings as made
@@ -18,13 +17,14 @@ use Rattle.reference.specs.Commands.{change, took}
 use Rattle.reference.specs.Machine.{Registered}
 use Rattle.reference.specs.Opening.{all_restarted, restart}
 use Rattle.reference.specs.World.{World}
-use Rattle.laws_dataflow.specs.Plans.{below_root}
-use Rattle.laws_dataflow.specs.Queries.{behind}
-use Rattle.laws_queries.specs.Queries.{PlainQuery, operator_at}
+use Rattle.laws_dataflow.specs.Roots.{behind, below_root}
+use Rattle.laws_queries.specs.Plain.{PlainQuery, operator_at}
 use Rattle.laws_queries.specs.Registrations.{lengths_of}
 use Rattle.laws_engine.specs.Accepted.{IsBegun}
 use Rattle.laws_engine.specs.Calls.{broken, remains_after}
-use Rattle.laws_engine.specs.Engines.{Broken, Dropped, Lease, PlainEngine, PlainRemains, Running, answers_in, next_of, remains_at, upto_at, upto_by, upto_in, world_of}
+use Rattle.laws_engine.specs.Engines.{Broken, Dropped, Lease, PlainEngine, PlainRemains, Running}
+use Rattle.laws_engine.specs.Engines.{answers_in, next_of, remains_at, upto_by, upto_in, world_of}
+use Rattle.laws_engine.specs.Good.{upto_at}
 use Rattle.laws_engine.specs.Histories.{Breaks, IsCallStep}
 use Rattle.laws_engine.specs.Openings.{forgotten, marks_by}
 

@@ -7,7 +7,7 @@ use Rattle.reference.specs.Finds.{Finds}
 use Rattle.reference.specs.Machine.{Machine, Registered}
 use Rattle.reference.specs.Standing.{found_of}
 use Rattle.laws_queries.specs.Machines.{IsMachine, columns_of}
-use Rattle.laws_queries.specs.Queries.{PlainQuery}
+use Rattle.laws_queries.specs.Plain.{PlainQuery}
 use Rattle.laws_queries.specs.Registrations.{HaveColumnNames, lengths_of}
 use Rattle.laws_queries.specs.Rows.{HaveRows}
 use Rattle.query_runtime.specs.Turns.{IsBeginning}

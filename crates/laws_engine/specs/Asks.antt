@@ -1,13 +1,15 @@
 -- What the calls of running queries ask of the engine that makes them.
 use Rattle.std.specs.Prelude.{ℕ, ◌≡◌, ◌<◌, Some, length}
 use Rattle.column.specs.declared.batch.Side.{Side}
-use Rattle.operators.specs.Operators.{ready}
+use Rattle.operators.specs.Ready.{ready}
 use Rattle.reference.specs.Machine.{Registered}
-use Rattle.laws_queries.specs.Queries.{PlainQuery, change_at_first, log_at, operator_at}
+use Rattle.laws_queries.specs.Queries.{change_at_first}
+use Rattle.laws_queries.specs.Plain.{PlainQuery, log_at, operator_at}
 use Rattle.laws_queries.specs.Steps.{outs_at_first}
 use Rattle.query_runtime.specs.Runs.{CanRun}
 use Rattle.query_runtime.specs.Turns.{CanFinish, CanLease, CanPut, HasOperator, log_of}
-use Rattle.laws_engine.specs.Engines.{IsIn, Lease, PlainEngine, Running, query_at, remains_at}
+use Rattle.laws_engine.specs.Engines.{Lease, PlainEngine, Running, query_at, remains_at}
+use Rattle.laws_engine.specs.Good.{IsIn}
 use Rattle.laws_engine.specs.Calls.{IsOf}
 
 -- the number is of an operator of a running query

@@ -11,16 +11,18 @@ use Rattle.plan.specs.Nodes as plan
 use Rattle.reference.specs.Commands.{Append, Declare, Drop, Heartbeat, Register, Take, after}
 use Rattle.reference.specs.Commands.{change, first_fault}
 use Rattle.reference.specs.Machine.{Machine, Registered}
-use Rattle.laws_dataflow.specs.Plans.{below_root}
-use Rattle.laws_queries.specs.Queries.{IsAnswered, IsTurned, PlainQuery, log_at, operator_at}
-use Rattle.laws_queries.specs.Queries.{place_of}
-use Rattle.stream_store.specs.Closing.{QueuesGain}
+use Rattle.laws_dataflow.specs.Roots.{below_root}
+use Rattle.laws_queries.specs.Queries.{IsAnswered, IsTurned}
+use Rattle.laws_queries.specs.Plain.{PlainQuery, log_at, operator_at, place_of}
+use Rattle.stream_store.specs.Gains.{QueuesGain}
 use Rattle.laws_queries.specs.Steps.{IsFirst, outs_at_first}
-use Rattle.run_queue.specs.Slots.{changed, first_of, put, without_query}
+use Rattle.run_queue.specs.Slots.{first_of}
+use Rattle.run_queue.specs.Changes.{changed, put, without_query}
 use Rattle.run_queue.specs.declared.slots.Slot.{Slot}
-use Rattle.laws_engine.specs.Engines.{Broken, Dropped, Goes, Lease, PlainEngine, PlainRemains}
+use Rattle.laws_engine.specs.Engines.{Broken, Dropped, Lease, PlainEngine, PlainRemains}
+use Rattle.laws_engine.specs.Good.{Goes}
 use Rattle.laws_engine.specs.Engines.{Running, answers_in, next_at, query_at, remains_at, slot_at}
-use Rattle.laws_engine.specs.Engines.{upto_at}
+use Rattle.laws_engine.specs.Good.{upto_at}
 
 -- the slots with that of the operator k of the query n,
 -- which is in `old`, with what this may take next in `new`

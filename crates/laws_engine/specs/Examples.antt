@@ -2,15 +2,15 @@
 -- condition needs that has as many brackets open as it may.
 use Rattle.std.specs.Prelude.{◌≡◌, ℕ, zero, suc, List, [], ◌++◌, Option, Some, None, Result, Ok}
 use Rattle.std.specs.Prelude.{Err, codes, refl}
-use Rattle.cql_reader.specs.Lexis.{all_ascii, decimal, kind_in, number_of, reserved, same_bytes}
+use Rattle.cql_reader.specs.Lexis.{decimal, kind_in, number_of, reserved, same_bytes}
 use Rattle.cql_reader.specs.Lexis.{same_letters, token_at, word_kind}
-use Rattle.cql_reader.specs.Tokens.{scan}
+use Rattle.cql_reader.specs.Scanning.{all_ascii, scan}
 use Rattle.cql_reader.specs.Query.{Query, WrittenCondition}
 use Rattle.cql_reader.specs.Grammar.{alternatives, deepens, did, in_range, kind_of, took}
 use Rattle.cql_reader.specs.Fault.{Fault, TooDeep}
 use Rattle.cql_reader.specs.Prediction.{chosen, count, ends, first, firsts, has, nullable, parsed}
 use Rattle.cql_reader.specs.Prediction.{pick, run}
-use Rattle.cql_reader.specs.Reading.{reading}
+use Rattle.cql_reader.specs.Judging.{reading}
 use Rattle.names.specs.Resolved.{condition_of}
 use Rattle.row_nodes.specs.Steps.{truths_needed}
 

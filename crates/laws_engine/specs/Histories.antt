@@ -4,9 +4,10 @@ use Rattle.reference.specs.Commands.{Append, Command, Declare, Drop, Heartbeat, 
 use Rattle.reference.specs.Commands.{first_fault}
 use Rattle.reference.specs.Machine as machine
 use Rattle.reference.specs.Machine.{Registered}
-use Rattle.laws_queries.specs.Queries.{PlainQuery}
+use Rattle.laws_queries.specs.Plain.{PlainQuery}
 use Rattle.run_queue.specs.declared.slots.Slot.{Slot}
-use Rattle.laws_engine.specs.Engines.{IsIn, Lease, PlainEngine}
+use Rattle.laws_engine.specs.Engines.{Lease, PlainEngine}
+use Rattle.laws_engine.specs.Good.{IsIn}
 use Rattle.laws_engine.specs.Openings.{forgotten}
 use Rattle.laws_engine.specs.Calls.{IsAnsweredTurn, IsFinishedTurn, IsHeartbeat, IsLeasable, IsOf}
 use Rattle.laws_engine.specs.Calls.{IsRegistration, IsTake, abandoned, answered, appended, broken}

@@ -1,10 +1,12 @@
 pub mod Engines
+pub mod Good
 pub mod Promises
 pub mod Calls
 pub mod Histories
 pub mod Asks
 pub mod Resting
 pub mod Openings
+pub mod Unbroken
 pub mod Remembered
 pub mod Accepted
 pub mod Examples

@@ -1,12 +1,10 @@
+-- TO BELIEVE: the theorem rests on these definitions, and no proof can check them.
 -- An engine whose machine is replaced by its opening.
-use Rattle.std.specs.Prelude.{ℕ, ◌≡◌, Bool, true, false, Option, Some, None, List, [], ◌∷◌, map}
-use Rattle.std.specs.Prelude.{slice_get}
-use Rattle.std.specs.Option.{option_map_or}
-use Rattle.values.specs.Row.{Row}
+use Rattle.std.specs.Prelude.{ℕ, Option, Some, None, List, [], ◌∷◌, map}
 use Rattle.reference.specs.Machine.{Registered}
 use Rattle.reference.specs.Opening.{opening}
 use Rattle.laws_engine.specs.Engines.{Broken, Dropped, PlainEngine, PlainRemains, Running}
-use Rattle.laws_engine.specs.Engines.{answers_in, next_of, query_at, remains_at}
+use Rattle.laws_engine.specs.Engines.{answers_in, next_of}
 
 -- queues, turns that are out and answers that wait are as they were
 abbrev pub opened : PlainEngine → List (Option ℕ) → PlainEngine
@@ -27,19 +25,3 @@ marks_by (q ∷ qs) (k ∷ remains) = mark_in q k ∷ marks_by qs remains
 -- FORGETTING
 abbrev pub forgotten : PlainEngine → PlainEngine
 forgotten e = opened e (marks_by e.machine.queries e.queries)
-
--- THE QUERIES THAT GO ON: that run, or are registered later
-abbrev pub is_running : PlainRemains → Bool
-is_running (Running p) = true
-is_running (Broken answers upto) = false
-is_running Dropped = false
-
-abbrev pub goes_on : PlainEngine → ℕ → Bool
-goes_on e n = option_map_or is_running (slice_get e.queries n) true
-
--- NO QUERY IS BROKEN, and nothing is left of just those that were dropped
-pub record IsUnbroken (e : PlainEngine) : Type 0 where
-  pub unbroken : (n : ℕ) (answers : List (ℕ × Row)) (upto : ℕ)
-      → remains_at e n ≡ Broken answers upto → ⊥
-  pub gone : (n : ℕ) (q : Registered) → query_at e n ≡ Some q → remains_at e n ≡ Dropped
-      → q.is_dropped ≡ true

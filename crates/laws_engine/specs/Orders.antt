@@ -2,7 +2,7 @@
 use Rattle.std.specs.Prelude.{ℕ, ◌≡◌, false, None, List, [], ◌∷◌}
 use Rattle.operators.specs.States.{near_of}
 use Rattle.reference.specs.Machine.{Registered}
-use Rattle.laws_queries.specs.Queries.{PlainQuery, log_at, operator_at}
+use Rattle.laws_queries.specs.Plain.{PlainQuery, log_at, operator_at}
 use Rattle.laws_queries.specs.Steps.{IsFirst}
 use Rattle.run_queue.specs.Slots.{first_of}
 use Rattle.laws_engine.specs.Calls.{IsOf, leased}

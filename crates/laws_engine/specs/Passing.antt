@@ -2,10 +2,11 @@
 use Rattle.std.specs.Prelude.{ℕ, ◌≡◌, ◌+◌, false, Some, set}
 use Rattle.reference.specs.Machine.{Registered}
 use Rattle.laws_queries.specs.Passing.{QueryPasses}
-use Rattle.laws_queries.specs.Queries.{PlainQuery}
-use Rattle.laws_engine.specs.Engines.{HasSlots, PlainEngine, Running, is_leased, query_at}
+use Rattle.laws_queries.specs.Plain.{PlainQuery}
+use Rattle.laws_engine.specs.Engines.{PlainEngine, Running, is_leased, query_at}
+use Rattle.laws_engine.specs.Good.{HasSlots}
 use Rattle.laws_engine.specs.Engines.{remains_at}
-use Rattle.laws_engine.specs.Engines.{slot_of}
+use Rattle.laws_engine.specs.Good.{slot_of}
 
 -- its operators change, and it takes one number, as a turn does
 abbrev pub with_passed : PlainEngine → ℕ → PlainQuery → PlainEngine

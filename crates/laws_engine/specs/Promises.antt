@@ -1,3 +1,4 @@
+-- TO BELIEVE: the theorem rests on these definitions, and no proof can check them.
 -- What is promised of an engine of many queries.
 use Rattle.std.specs.Prelude.{ℕ, false, ◌≡◌, ◌<◌, ◌++◌, ◌⊎◌, Some, None, List, drop, length}
 use Rattle.std.specs.declared.cmp.Ordering.TheVariants.{Less}
@@ -5,8 +6,8 @@ use Rattle.values.specs.Row.{Row}
 use Rattle.column.specs.declared.batch.Side.{Side}
 use Rattle.envelope.specs.Fraction.{NoGreater}
 use Rattle.reference.specs.Machine.{Machine, Registered, closed_answers}
-use Rattle.laws_forgetting.specs.Openings.{answers_below}
-use Rattle.laws_queries.specs.Queries.{PlainQuery}
+use Rattle.laws_forgetting.specs.Below.{answers_below}
+use Rattle.laws_queries.specs.Plain.{PlainQuery}
 use Rattle.run_queue.specs.Slots.{first_of, slot_cmp}
 use Rattle.run_queue.specs.declared.slots.Slot.{Slot}
 use Rattle.laws_engine.specs.Engines.{HasGiven, PlainEngine, Running, answers_in, is_leased}

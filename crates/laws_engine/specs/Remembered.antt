@@ -6,12 +6,12 @@ use Rattle.reference.specs.Commands.{after}
 use Rattle.reference.specs.Machine.{Machine, Registered}
 use Rattle.reference.specs.World.{untaken}
 use Rattle.laws_forgetting.specs.Partly.{EndPartlyAlike}
-use Rattle.laws_queries.specs.Queries.{PlainQuery}
+use Rattle.laws_queries.specs.Plain.{PlainQuery}
 use Rattle.laws_engine.specs.Engines.{Broken, PlainEngine, Running, answers_in, query_at}
 use Rattle.laws_engine.specs.Engines.{remains_at}
 use Rattle.laws_engine.specs.Histories.{Abandons, Breaks, Call, Finishes, Forgets, IsCallStep}
 use Rattle.laws_engine.specs.Histories.{Leases, Stays, Told}
-use Rattle.laws_engine.specs.Openings.{goes_on}
+use Rattle.laws_engine.specs.Unbroken.{goes_on}
 use Rattle.laws_engine.specs.Promises.{HasNothingToRun}
 
 -- how many answers the engine hands out

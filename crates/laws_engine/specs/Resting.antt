@@ -1,7 +1,7 @@
 -- Windows that rest: they have taken all that their streams have closed.
 use Rattle.std.specs.Prelude.{ℕ, ◌≡◌, ◌<◌, true, Some, None, length}
 use Rattle.reference.specs.Machine.{Registered}
-use Rattle.laws_queries.specs.Queries.{PlainQuery, node_at}
+use Rattle.laws_queries.specs.Plain.{PlainQuery, node_at}
 use Rattle.laws_engine.specs.Calls.{is_reading}
 use Rattle.laws_engine.specs.Engines.{PlainEngine, Running, query_at, ready_in, remains_at}
 

@@ -3,7 +3,7 @@ ghost use Rattle.std.specs.Prelude.{◌≡◌, ◌≤◌, ℕ, List, Ok, Some, f
 ghost use Rattle.values.specs.Condition.{Condition};
 ghost use Rattle.values.specs.Row.{Row};
 ghost use Rattle.cql_reader.specs.Query.{Query};
-ghost use Rattle.cql_reader.specs.Reading.{reading};
+ghost use Rattle.cql_reader.specs.Judging.{reading};
 ghost use Rattle.names.specs.Catalog as catalogs;
 ghost use Rattle.names.specs.Resolved.{resolved};
 ghost use Rattle.row_nodes.specs.Steps.{truths_needed};
@@ -13,13 +13,15 @@ ghost use Rattle.needed_rows.specs.Queries.{AreCaughtUp, readers_over};
 ghost use Rattle.reference.specs.Alike.{Alike};
 ghost use Rattle.laws_forgetting.specs.Partly.{PartlyAlike};
 ghost use Rattle.laws_engine.specs.Bounds.{HaveFewClosed};
-ghost use Rattle.laws_engine.specs.Engines.{Broken, GoodEngine, Lease, PlainEngine, query_at};
+ghost use Rattle.laws_engine.specs.Engines.{Broken, Lease, PlainEngine, query_at};
+ghost use Rattle.laws_engine.specs.Good.{GoodEngine};
 ghost use Rattle.laws_engine.specs.Engines.{remains_at, world_of};
 ghost use Rattle.laws_engine.specs.Orders.{LeaveOneWorld};
 ghost use Rattle.laws_engine.specs.Passing.{HasPassed};
 ghost use Rattle.laws_engine.specs.Promises.{KeepsItsPromises};
 ghost use Rattle.laws_engine.specs.Histories.{Breaks, Call, IsCallStep, LeadTo, empty};
-ghost use Rattle.laws_engine.specs.Openings.{IsUnbroken, forgotten, goes_on, marks_by};
+ghost use Rattle.laws_engine.specs.Openings.{forgotten, marks_by};
+ghost use Rattle.laws_engine.specs.Unbroken.{IsUnbroken, goes_on};
 ghost use Rattle.laws_engine.specs.Remembered.{GivesAsRemembered, LeadBoth};
 
 use lane_kernels::MAX_TRUTHS;

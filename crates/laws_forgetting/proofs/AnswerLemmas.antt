@@ -6,9 +6,9 @@ use Rattle.std.proofs.lemmas.Grind.{flat_map-append}
 use Rattle.values.specs.Row.{Row, row_cmp}
 use Rattle.values.specs.Perm.{Perm, same}
 use Rattle.values.specs.Tables.{SameTables}
-use Rattle.values.specs.Arrivals.{AllFrom, Longer}
-use Rattle.values.specs.Window.{Element, Window, window_rows}
-use Rattle.values.specs.Needs.{Each, HasNeeded}
+use Rattle.values.specs.Arrivals.{Longer}
+use Rattle.values.specs.Window.{AllFrom, Element, Window, window_rows}
+use Rattle.values.specs.Enough.{Each, HasNeeded}
 use Rattle.values.specs.Answers.{Resolved, answers_at, relation, relation_before, shown_at, streamed}
 use Rattle.values.proofs.Closed.{shown-longer}
 use Rattle.values.proofs.Order.{row_order}

@@ -5,8 +5,7 @@ use Rattle.std.specs.Option.{option_map_or}
 use Rattle.std.proofs.lemmas.Bool.{ne_eqb, eqb-false}
 use Rattle.std.proofs.lemmas.List.{append_cancel_left, drop-drop, map-append}
 use Rattle.std.proofs.lemmas.List.Elements.{filter-append}
-use Rattle.values.specs.Arrivals.{AllFrom}
-use Rattle.values.specs.Window.{Element, input_of}
+use Rattle.values.specs.Window.{AllFrom, Element, input_of}
 use Rattle.plan.proofs.Lists.{by_test}
 use Rattle.reference.specs.Machine.{Machine, Place, Registered, Stream, answers_from, closed_answers, ends_at, first_for, input_at, until_for}
 use Rattle.reference.specs.Commands.{Command, Declare, Register, Append, Heartbeat, Take, Drop, Found, after, appended, change, closed_to, declared, dropped, elements_from, first_fault, found, most_counted, place_at, registered, registered_as, took}

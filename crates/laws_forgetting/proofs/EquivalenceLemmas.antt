@@ -1,7 +1,6 @@
 -- Being alike is an equivalence.
 use Rattle.std.proofs.Common.{◌≡◌, ℕ, suc, Bool, List, [], ◌∷◌, map, sym, ap, ◌∙◌, subst, arith}
-use Rattle.values.specs.Arrivals.{AllFrom}
-use Rattle.values.specs.Window.{Element}
+use Rattle.values.specs.Window.{AllFrom, Element}
 use Rattle.reference.specs.Machine.{Machine, Registered, until_for}
 use Rattle.reference.specs.World.{World}
 use Rattle.reference.specs.Alike.{Alike, AlikeMachines, AlikeQuery, AreAlike, MayCome, bare}

@@ -10,7 +10,7 @@ use Rattle.std.proofs.lemmas.Option.{slice_get-map}
 use Rattle.std.proofs.lemmas.Simd.{map-map}
 use Rattle.names.specs.Catalog as catalogs
 use Rattle.names.specs.Faults.{first_of}
-use Rattle.cql_reader.specs.Reading.{reading}
+use Rattle.cql_reader.specs.Judging.{reading}
 use Rattle.reference.specs.Machine.{Machine, Registered, Stream, is_called, query_at, query_named, stream_named, unless_dropped}
 use Rattle.reference.specs.Commands.{Command, Declare, Register, Append, Heartbeat, Take, Drop, append_tests, catalog_of, count_undropped, declare_tests, first_fault, found, found_of, heartbeat_tests, is_crowded, new_query_tests, of_query, of_stream, query_tests, register_tests, rows_tests, take_tests}
 use Rattle.reference.specs.declared.fault.Fault.{Fault}

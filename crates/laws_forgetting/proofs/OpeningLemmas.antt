@@ -8,14 +8,15 @@ use Rattle.std.proofs.lemmas.Bool.{cases_lt, lt-leb}
 use Rattle.std.proofs.lemmas.List.{length-map, length-take-le, take-append-drop}
 use Rattle.values.specs.Row.{Row}
 use Rattle.values.specs.Answers.{answers_at}
-use Rattle.values.specs.Arrivals.{AllFrom}
-use Rattle.values.specs.Window.{Element, Window, input_of}
-use Rattle.values.specs.Needs.{Each, is_needed}
+use Rattle.values.specs.Window.{AllFrom, Element, Window, input_of}
+use Rattle.values.specs.Needs.{is_needed}
+use Rattle.values.specs.Enough.{Each}
 use Rattle.reference.specs.Machine.{Machine, Place, Registered, Stream, answers_from, input_at, until_for}
 use Rattle.reference.specs.Opening.{all_restarted, needs, needs_by, opening, restart, restarted, with_kept}
 use Rattle.reference.proofs.ClosedLemmas.{least_of_all}
 use Rattle.reference.specs.Alike.{AlikeMachines, AlikeQuery, AreAlike, MayCome, bare, later_answers, later_input, open_at}
-use Rattle.laws_forgetting.specs.Openings.{AreNumbered, IsMark, MayOpen, answers_below}
+use Rattle.laws_forgetting.specs.Openings.{AreNumbered, IsMark, MayOpen}
+use Rattle.laws_forgetting.specs.Below.{answers_below}
 use Rattle.laws_forgetting.specs.Partly.{ArePartlyAlike, MayOpenMarked, PartlyAlike, has_mark}
 use Rattle.laws_forgetting.proofs.AnswerLemmas.{HaveNeeded, opening_answers, parts, with_later}
 use Rattle.laws_forgetting.proofs.BareLemmas.{map_each}

@@ -1,5 +1,5 @@
 -- No call tells alike worlds apart, and no step alike machines.
-use Rattle.std.proofs.Common.{◌≡◌, ℕ, ℤ, nat_abs, ◌++◌, Bool, true, false, cond, min, Option, Some, None, Ok, List, [], ◌∷◌, map, take, drop, length, get_or, refl, sym, ap, ap₂, ◌∙◌, subst}
+use Rattle.std.proofs.Common.{◌≡◌, ℕ, ℤ, nat_abs, ◌++◌, Bool, true, false, cond, min, Option, Some, None, Result, Ok, List, [], ◌∷◌, map, take, drop, length, get_or, refl, sym, ap, ap₂, ◌∙◌, subst}
 use Rattle.std.specs.Prelude.{slice_get, option_and_then}
 use Rattle.std.specs.Option.{option_map}
 use Rattle.values.specs.Row.{Row}
@@ -7,6 +7,7 @@ use Rattle.reference.specs.Machine.{Machine, Registered, Stream, ends_at, unless
 use Rattle.reference.specs.Commands.{Command, Declare, Register, Append, Heartbeat, Take, Drop, after, change, first_fault, found}
 use Rattle.reference.specs.Replies.{Reply}
 use Rattle.reference.specs.Steps.{IsStep}
+use Rattle.reference.specs.Looks.{Look, Seen, answers, at_query, look_at, operators, peek_rows, seen_as, show_plan, show_status, status}
 use Rattle.reference.specs.Status.{QueryStatus, Status, StreamStatus, last_before, queries_status, status_of, stream_status}
 use Rattle.reference.specs.World.{World, append_step, begins_at, declare_step, drain_fault, drain_step, drop_step, handed, heartbeat_step, operators_of, peek_at, query_named, register_step, slopes_at, slopes_in, stream_named, take_step, unless, untaken, waiting_at}
 use Rattle.reference.specs.declared.fault.Fault.{Fault}
@@ -210,6 +211,20 @@ module _ (w v : World) (h : Alike w v) where
   unfolding query_named
   named_query name = query_named_same each_passes w.machine v.machine partly name
 
+  -- a look at the query of a name finds the same one
+  seen_alike : (f g : ℕ → Result Seen Fault) → ((k : ℕ) → f k ≡ g k) → (o p : Option ℕ) → o ≡ p → at_query f o ≡ at_query g p
+  seen_alike f g same None p e = ap (at_query g) e
+  seen_alike f g same (Some k) p e = same k ∙ ap (at_query g) e
+
+  looks : (look : Look) → look_at w look ≡ look_at v look
+  looks (peek_rows name limit) =
+      seen_alike (λ k. seen_as answers (peek_at w k limit)) (λ k. seen_as answers (peek_at v k limit)) (λ k. ap (seen_as answers) (peeks k limit))
+      (query_named w name) (query_named v name) (named_query name)
+  looks (show_plan name) =
+      seen_alike (λ k. seen_as operators (slopes_at w k)) (λ k. seen_as operators (slopes_at v k)) (λ k. ap (seen_as operators) (slopes k))
+      (query_named w name) (query_named v name) (named_query name)
+  looks show_status = ap (λ (s : Status). Ok (status s)) says
+
   pub answer_alike : AnswerAlike w v
   answer_alike = record {
     declare = declares;
@@ -222,6 +237,7 @@ module _ (w v : World) (h : Alike w v) where
     peek = peeks;
     status = says;
     slopes = slopes;
+    look = looks;
     streams = named_stream;
     queries = named_query;
   }

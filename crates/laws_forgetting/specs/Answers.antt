@@ -3,6 +3,7 @@ use Rattle.std.specs.Prelude.{ℕ, ℤ, ◌≡◌, Option, List, [], ◌∷◌, 
 use Rattle.reference.specs.Machine.{Machine}
 use Rattle.reference.specs.Commands.{Command, first_fault}
 use Rattle.reference.specs.Replies.{Reply}
+use Rattle.reference.specs.Looks.{Look, look_at}
 use Rattle.reference.specs.Status.{status_of}
 use Rattle.reference.specs.Steps.{IsStep}
 use Rattle.reference.specs.World.{World, Step, append_step, declare_step, drain_step, drop_step}
@@ -31,6 +32,7 @@ pub record AnswerAlike (w v : World) : Type 0 where
   pub peek : (query : ℕ) (limit : ℤ) → peek_at w query limit ≡ peek_at v query limit
   pub status : status_of w ≡ status_of v
   pub slopes : (query : ℕ) → slopes_at w query ≡ slopes_at v query
+  pub look : (look : Look) → look_at w look ≡ look_at v look
   pub streams : (name : List ℕ) → stream_named w name ≡ stream_named v name
   pub queries : (name : List ℕ) → query_named w name ≡ query_named v name
 

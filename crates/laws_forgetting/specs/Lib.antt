@@ -1,3 +1,4 @@
 pub mod Answers
 pub mod Openings
+pub mod Below
 pub mod Partly

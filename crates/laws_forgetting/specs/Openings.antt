@@ -1,21 +1,18 @@
 -- At which marks a machine may be replaced by its opening.
 use Rattle.std.specs.Prelude.{ℕ, ◌≡◌, ◌<◌, ◌≤◌, ◌+◌, ◌⊎◌, ⊤, true, false, max, Option, Some, List}
-use Rattle.std.specs.Prelude.{[], ◌++◌, drop, length, get_or, map, slice_get}
+use Rattle.std.specs.Prelude.{[], drop, length, get_or, slice_get}
 use Rattle.std.specs.List.{AllByRecursion}
 use Rattle.values.specs.Row.{Row}
-use Rattle.values.specs.Window.{Element, Window, Range, RangeSlide, Unbounded, LastRows, shows}
+use Rattle.values.specs.Moving.{HasStep}
+use Rattle.values.specs.Window.{Element, Window, Instants, LastRows, shows}
 use Rattle.values.specs.Needs.{is_needed}
-use Rattle.reference.specs.Machine.{Machine, Registered, Stream, answers_from, input_at, until_for}
+use Rattle.reference.specs.Machine.{Machine, Registered, Stream, until_for}
+use Rattle.laws_forgetting.specs.Below.{answers_below}
 
 -- elements have numbers below the count of what came
 abbrev pub AreNumbered : List Stream → Type 0
 AreNumbered streams = AllByRecursion
     (λ s. AllByRecursion (λ e. e.arrival < s.arrivals) s.elements) streams
-
--- the query's answers below the instant after a mark
-abbrev pub answers_below : Machine → Registered → ℕ → List (ℕ × Row)
-answers_below m q next = q.earlier
-    ++ answers_from q.meaning q.first q.start next (map (input_at m.streams q.first) q.places)
 
 -- A MARK, with the answers that wait there: its instants
 -- are closed, and its answers were taken or wait
@@ -39,11 +36,9 @@ pub record MayOpen (m : Machine) (marks : List (Option ℕ))
   pub numbered : AreNumbered m.streams
 
 -- WHAT A WINDOW NEEDS
--- it moves: a slide does so by one instant or more
+-- its step, if it has one, is one instant or more
 abbrev pub Moves : Window → Type 0
-Moves (Range n) = ⊤
-Moves (RangeSlide n step) = 0 < step
-Moves Unbounded = ⊤
+Moves (Instants r) = HasStep r
 Moves (LastRows columns n) = ⊤
 
 -- the window shows the element at some instant from the mark on,

@@ -1,24 +1,27 @@
 -- A running query after a turn of its root, which gives answers.
 use Rattle.std.proofs.Common.{◌≡◌, ℕ, ◌-◌, List, [], ◌∷◌, ◌++◌, refl, sym, ap, ap₂, ◌∙◌, subst, subst₂, arith}
 use Rattle.values.specs.Row.{Row}
-use Rattle.values.specs.Resolved.{operator_of}
+use Rattle.values.specs.StreamOperators.{operator_of}
 use Rattle.column.specs.declared.batch.Side.{Side}
 use Rattle.op_queue.specs.Entries.{Entry, RowAt, TickAt}
 use Rattle.op_queue.specs.Items.{entries_of}
 use Rattle.op_queue.specs.declared.item.Item.{Item}
 use Rattle.to_stream.specs.Turns as root
 use Rattle.turn.specs.Turns.{Answered, outs_at}
-use Rattle.operators.specs.Operators.{Belongs, PlainOperator}
+use Rattle.operators.specs.Operators.{Belongs}
+use Rattle.operators.specs.Ready.{PlainOperator}
 use Rattle.operators.specs.States.{near_of}
 use Rattle.reference.specs.Machine.{Machine, Registered}
 use Rattle.laws_dataflow.specs.Nets.{input_of}
-use Rattle.laws_dataflow.specs.Plans.{below_root, value_of}
+use Rattle.laws_dataflow.specs.Plans.{value_of}
+use Rattle.laws_dataflow.specs.Roots.{below_root}
 use Rattle.laws_queries.specs.Widths.{AreEntries, width_at}
 use Rattle.laws_queries.specs.Counts.{most_rows}
 use Rattle.laws_queries.specs.Steps.{IsFirst, outs_at_first}
 use Rattle.laws_queries.specs.Rooms.{RootHasRoom}
 use Rattle.laws_queries.specs.Roots.{RootMade, RootMay, RootStands, RootStep}
-use Rattle.laws_queries.specs.Queries.{IsAnswered, IsRunning, MayFinish, RunsAt, log_at, node_at, operator_at}
+use Rattle.laws_queries.specs.Queries.{IsAnswered, IsRunning, MayFinish, RunsAt}
+use Rattle.laws_queries.specs.Plain.{log_at, node_at, operator_at}
 use Rattle.laws_queries.proofs.QueueLemmas.{first_waits, inbox_within, inboxes_finished}
 
 wide_rest : (w : ℕ) (q r : List (Entry Row)) → AreEntries w (q ++ r) → AreEntries w r

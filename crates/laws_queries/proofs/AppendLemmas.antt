@@ -23,14 +23,16 @@ use Rattle.laws_dataflow.specs.Laws as nets
 use Rattle.laws_dataflow.specs.Laws.{IsGood}
 use Rattle.laws_dataflow.specs.Windows.{AreFrom, opened}
 use Rattle.laws_dataflow.specs.Nets.{World, Cell, at_window, at_unary, at_join}
-use Rattle.laws_dataflow.specs.Plans.{arrivals_at, below_root, world_of}
+use Rattle.laws_dataflow.specs.Plans.{arrivals_at, world_of}
+use Rattle.laws_dataflow.specs.Roots.{below_root}
 use Rattle.laws_dataflow.proofs.MachineLemmas.{append_inputs, append_opens, arriving, machine_appends}
-use Rattle.operators.specs.Operators.{PlainOperator}
+use Rattle.operators.specs.Ready.{PlainOperator}
 use Rattle.laws_queries.specs.Runs.{Runs, RunsRoot, RunsWindow}
 use Rattle.laws_queries.specs.Counts.{AreFew, StaysWithin, most_rows, source_rows}
 use Rattle.laws_queries.specs.Widths.{width_at}
 use Rattle.laws_queries.specs.Rooms.{HasShortInputs}
-use Rattle.laws_queries.specs.Queries.{HasInboxes, IsRunning, RunsAt, log_at, no_log, node_at, operator_at, source_of, stream_log}
+use Rattle.laws_queries.specs.Queries.{HasInboxes, IsRunning, RunsAt}
+use Rattle.laws_queries.specs.Plain.{log_at, no_log, node_at, operator_at, source_of, stream_log}
 use Rattle.laws_queries.proofs.BeatLemmas.{IsLaterIn, change_here, change_there, same_number}
 use Rattle.laws_queries.proofs.QueryLemmas.{same_count}
 use Rattle.laws_queries.proofs.MachineCounts.{since_now}

@@ -6,22 +6,25 @@ use Rattle.std.specs.Option.{option_map, option_map_or}
 use Rattle.values.specs.Row.{Row}
 use Rattle.values.specs.Perm.{Perm, same}
 use Rattle.values.specs.Window.{Element, input_of}
-use Rattle.op_queue.specs.Cursors.{GainsClosed, cursor_entries}
+use Rattle.op_queue.specs.Cursors.{GainsClosed}
 use Rattle.op_queue.specs.Entries.{Entry, TickAt}
-use Rattle.op_queue.specs.Logs.{Closed, instant_entries, is_shown, row_entries, shown}
+use Rattle.op_queue.specs.Logs.{Closed, cursor_entries, instant_entries, is_shown, row_entries, shown}
 use Rattle.windows.specs.Laws.{IsRising}
-use Rattle.operators.specs.Inboxes.{IsInboxWithin, entries_in}
+use Rattle.operators.specs.Inboxes.{IsInboxWithin}
+use Rattle.operators.specs.Ready.{entries_in}
 use Rattle.operators.specs.declared.inboxes.Inbox.{Inbox}
 use Rattle.operators.specs.declared.inboxes.Inbox.TheVariants.{First, Between}
 use Rattle.plan.proofs.Lists.{each-append, each-filter}
 use Rattle.reference.specs.Commands.{change, closed_to}
 use Rattle.reference.specs.Machine.{Place, Stream, input_at}
-use Rattle.stream_store.specs.Closing.{QueuesGain, by_key, closed_of, closing_of}
+use Rattle.stream_store.specs.Closing.{by_key, closed_of}
+use Rattle.stream_store.specs.Gains.{QueuesGain, closing_of}
 use Rattle.stream_store.specs.Stored.{IsByArrival}
 use Rattle.laws_dataflow.specs.Windows.{AreBelow, Brings, opened}
 use Rattle.laws_dataflow.proofs.BeatLemmas.{closed_at, closed_below, closed_rises, span_brings}
 use Rattle.laws_queries.specs.Widths.{AreEntries, IsRow}
-use Rattle.laws_queries.specs.Queries.{Reads, elements_at, no_log, stream_log}
+use Rattle.laws_queries.specs.Queries.{Reads, elements_at}
+use Rattle.laws_queries.specs.Plain.{no_log, stream_log}
 use Rattle.laws_queries.proofs.ClosingLemmas.{closing_parts, closing_rises}
 use Rattle.laws_queries.proofs.FeedLemmas.{wide_append}
 

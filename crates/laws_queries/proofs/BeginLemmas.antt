@@ -10,8 +10,7 @@ use Rattle.values.specs.declared.resolved.Window.{Window}
 use Rattle.values.proofs.Split.{keeps-and}
 use Rattle.lane_kernels.specs.Steps.{StepsFit}
 use Rattle.op_queue.specs.Entries.{Entry, RowAt, TickAt}
-use Rattle.op_queue.specs.Logs.{Closed, instant_entries, is_shown, log_entries, row_entries}
-use Rattle.op_queue.specs.Cursors.{cursor_entries}
+use Rattle.op_queue.specs.Logs.{Closed, cursor_entries, instant_entries, is_shown, log_entries, row_entries}
 use Rattle.op_queue.specs.declared.cursor.Cursor.{Cursor}
 use Rattle.windows.proofs.WindowLaw.{begins_empty, shows_none}
 use Rattle.group.specs.Groups.{column_at}
@@ -25,6 +24,7 @@ use Rattle.operators.specs.declared.inboxes.Inbox.TheVariants.{First, Between}
 use Rattle.operators.specs.declared.states.State.{State}
 use Rattle.plan.specs.Build.{at}
 use Rattle.plan.specs.Nodes as plan
+use Rattle.plan.specs.Values as valued
 use Rattle.plan.specs.Views.{columns_at}
 use Rattle.plan.proofs.Lists.{each-unmap}
 use Rattle.physical_plans.specs.Beginnings.{ReadsSource, WindowStarts}
@@ -77,12 +77,12 @@ and_true : (b : Bool) → b ≡ (b && true)
 and_true true = refl
 and_true false = refl
 
-keeps_all : (c : Condition) (cs : List Condition) (rows : List Row) → keeps (Some (joined c cs)) rows ≡ (keeps (Some c) rows && plan.holds_all cs rows)
+keeps_all : (c : Condition) (cs : List Condition) (rows : List Row) → keeps (Some (joined c cs)) rows ≡ (keeps (Some c) rows && valued.holds_all cs rows)
 keeps_all c [] rows = and_true (keeps (Some c) rows)
 keeps_all c (d ∷ ds) rows =
     keeps_all (And c d) ds rows
-    ∙ ap (λ b. b && plan.holds_all ds rows) (keeps-and c d rows)
-    ∙ and_assoc (keeps (Some c) rows) (keeps (Some d) rows) (plan.holds_all ds rows)
+    ∙ ap (λ b. b && valued.holds_all ds rows) (keeps-and c d rows)
+    ∙ and_assoc (keeps (Some c) rows) (keeps (Some d) rows) (valued.holds_all ds rows)
 
 pub record SelectFits (w : ℕ) (cs : List Condition) : Type 0 where
   pub tell : Tell (all_steps cs) cs

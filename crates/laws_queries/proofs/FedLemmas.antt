@@ -3,12 +3,14 @@ use Rattle.std.proofs.Common.{◌≡◌, ℕ, true, false, true≢false, inl, in
 use Rattle.values.specs.Row.{Row}
 use Rattle.column.specs.declared.batch.Side.{Side}
 use Rattle.column.specs.declared.batch.Side.TheVariants.{Left, Right}
-use Rattle.op_queue.specs.Entries.{Entry, IsForward}
+use Rattle.op_queue.specs.Entries.{Entry}
+use Rattle.op_queue.specs.Forward.{IsForward}
 use Rattle.op_queue.specs.Logs.{Closed}
 use Rattle.op_queue.proofs.PathLemmas.{Leads-append, Leads-forward}
 use Rattle.op_queue.specs.Paths.{Leads}
-use Rattle.operators.specs.Inboxes.{entries_in, is_fed, queued}
-use Rattle.operators.specs.Operators.{IsFed, PlainOperator, inbox_of, other, waiting}
+use Rattle.operators.specs.Inboxes.{is_fed, queued}
+use Rattle.operators.specs.Ready.{PlainOperator, entries_in, inbox_of, waiting}
+use Rattle.operators.specs.Operators.{IsFed, other}
 use Rattle.operators.proofs.InboxLemmas.{entries_fed}
 use Rattle.plan.specs.Nodes as plan
 use Rattle.plan.specs.Nodes.{Window, Select, Join, Project, Group, Distinct, ToStream}

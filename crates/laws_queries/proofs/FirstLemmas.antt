@@ -12,8 +12,8 @@ use Rattle.op_queue.specs.Items.{entries_of}
 use Rattle.op_queue.specs.Logs.{Closed}
 use Rattle.op_queue.specs.declared.item.Item.{Item}
 use Rattle.turn.specs.declared.outcomes.Change.{Change}
-use Rattle.operators.specs.Operators.{PlainOperator, IsFinished, waiting}
-use Rattle.operators.specs.States.{is_left}
+use Rattle.operators.specs.Operators.{IsFinished}
+use Rattle.operators.specs.Ready.{PlainOperator, is_left, waiting}
 use Rattle.laws_dataflow.specs.Nets.{batch}
 use Rattle.laws_queries.specs.Widths.{IsRow, AreEntries}
 use Rattle.laws_queries.specs.Steps.{IsFirst}

@@ -7,18 +7,19 @@ use Rattle.std.proofs.lemmas.Bool.{cases_lt, eqb-true, ltb-false}
 use Rattle.std.proofs.lemmas.List.{get_or_past, get_or-map, length-map}
 use Rattle.values.specs.Row.{Row}
 use Rattle.values.specs.Window.{Element, input_of}
-use Rattle.values.specs.Needs.{Each, HasNeeded, is_needed}
+use Rattle.values.specs.Needs.{is_needed}
+use Rattle.values.specs.Enough.{Each, HasNeeded}
 use Rattle.op_queue.specs.Entries.{Entry, TickAt}
-use Rattle.op_queue.specs.Cursors.{IsWithin, cursor_entries}
-use Rattle.op_queue.specs.Logs.{Closed, is_shown, row_entries, shown, instant_entries}
+use Rattle.op_queue.specs.Cursors.{IsWithin}
+use Rattle.op_queue.specs.Logs.{Closed, is_shown, row_entries, shown, instant_entries, cursor_entries}
 use Rattle.op_queue.specs.declared.cursor.Cursor.{Cursor}
 use Rattle.plan.specs.Nodes as plan
 use Rattle.plan.specs.Nodes.{Window, Select, Join, Project, Group, Distinct, ToStream}
 use Rattle.reference.specs.Machine.{Machine, Place, Registered, Stream, input_at, opens}
 use Rattle.reference.specs.Opening.{restarted, with_kept}
 use Rattle.stream_store.specs.Closing.{by_instant, closed_of}
-use Rattle.operators.specs.Inboxes.{IsInboxWithin, entries_in, is_fed}
-use Rattle.operators.specs.Operators.{PlainOperator, waiting as waiting_at}
+use Rattle.operators.specs.Inboxes.{IsInboxWithin, is_fed}
+use Rattle.operators.specs.Ready.{PlainOperator, entries_in, waiting as waiting_at}
 use Rattle.column.specs.declared.batch.Side.{Side}
 use Rattle.column.specs.declared.batch.Side.TheVariants.{Left, Right}
 use Rattle.operators.specs.declared.inboxes.Inbox.{Inbox}
@@ -28,7 +29,8 @@ use Rattle.laws_dataflow.specs.Laws.{IsGood}
 use Rattle.laws_dataflow.specs.Windows.{Brings, opened}
 use Rattle.laws_dataflow.specs.Nets.{Cell, Node, at_window, at_unary, at_join, cell_next, window, unary, join, GoodCell}
 use Rattle.laws_dataflow.specs.Operators.{net_of, node_of}
-use Rattle.laws_dataflow.specs.Plans.{below_root, comes, consumer_of, inputs_of, least_of, value_of, world_of}
+use Rattle.laws_dataflow.specs.Plans.{comes, consumer_of, inputs_of, least_of, value_of, world_of}
+use Rattle.laws_dataflow.specs.Roots.{below_root}
 use Rattle.laws_dataflow.specs.Worlds.{fed_cell}
 use Rattle.laws_dataflow.proofs.AnswerLemmas.{query_laid, query_planned}
 use Rattle.laws_dataflow.proofs.ForgetLemmas.{opens_ahead}
@@ -37,7 +39,8 @@ use Rattle.laws_queries.specs.Forgetting.{KeepsFor}
 use Rattle.laws_queries.specs.Runs.{Runs}
 use Rattle.laws_queries.specs.Counts.{AreFew, AreWindowRowsFew, StaysWithin, most_rows, source_rows}
 use Rattle.laws_queries.specs.Widths.{width_at}
-use Rattle.laws_queries.specs.Queries.{HasInboxes, IsLeftInbox, IsRunning, Reads, log_at, no_log, node_at, operator_at, place_of, source_of, stream_log}
+use Rattle.laws_queries.specs.Queries.{HasInboxes, IsLeftInbox, IsRunning, Reads}
+use Rattle.laws_queries.specs.Plain.{log_at, no_log, node_at, operator_at, place_of, source_of, stream_log}
 use Rattle.laws_queries.proofs.ClosingLemmas.{by_instants, shown_now, shown_out}
 use Rattle.laws_queries.proofs.HeartbeatLemmas.{Gains, closed_at_source, relog, runs_beat}
 use Rattle.laws_queries.proofs.QueryLemmas.{same_count}

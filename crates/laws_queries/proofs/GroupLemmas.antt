@@ -12,7 +12,8 @@ use Rattle.std.proofs.lemmas.List.FromFn.{length-map-range_with_len}
 use Rattle.std.proofs.lemmas.List.Elements.{All-nil, All-cons, All-head, All-tail, All-append, All-filter, All-map}
 use Rattle.values.specs.Bag.{is_same, distinct, without}
 use Rattle.values.specs.Row.{Row, row_cmp, same_row, value_at}
-use Rattle.values.specs.Value.{IsAnswerValue, IsAnswerNumber, answer_max, clamp_answer}
+use Rattle.values.specs.Value.{answer_max, clamp_answer}
+use Rattle.values.specs.Ranges.{IsAnswerValue, IsAnswerNumber}
 use Rattle.values.specs.Condition.{SourceColumn, field}
 use Rattle.values.specs.Relation as relations
 use Rattle.values.specs.Relation.{item_value, numbers, key_of, keys_of as keys_in, group_row}

@@ -27,11 +27,13 @@ use Rattle.turn.specs.Turns.{Outs, Put, Answered, change_at, outs_at}
 use Rattle.turn.specs.declared.kinds.Kind.{Kind}
 use Rattle.turn.specs.declared.kinds.Kind.TheVariants as kind
 use Rattle.turn.specs.declared.outcomes.Change.{Change}
-use Rattle.operators.specs.Operators.{PlainOperator, HasNamedColumns, IsFinished}
-use Rattle.operators.specs.States.{HasColumns, HasStood, IsNext, Takes, near_of, shown_in, usable}
+use Rattle.operators.specs.Operators.{HasNamedColumns, IsFinished}
+use Rattle.operators.specs.States.{HasColumns, HasStood, IsNext, Takes, near_of}
+use Rattle.operators.specs.Ready.{PlainOperator, usable}
 use Rattle.operators.specs.declared.states.State.{State}
 use Rattle.operators.specs.declared.states.State.TheVariants as state
 use Rattle.plan.specs.Nodes as plan
+use Rattle.plan.specs.Values as valued
 use Rattle.laws_dataflow.specs.Nets.{World, Unary, unary, Cell, at_window, at_unary, at_join, Input, GoodOne, Turn, rows_turn, tick_turn, batch, closing}
 use Rattle.laws_dataflow.specs.Operators.{grouping, once}
 use Rattle.laws_dataflow.proofs.BagLemmas.{same_of}
@@ -158,7 +160,7 @@ module _ (s : GroupState) (o o2 : PlainOperator) (log : Closed) (it : queue.Item
   next_is : IsFinished o log Left it (change_at o.kind it (near_of o.state Left it)) o2 → o2.state ≡ state.Groups (after_item s it)
   next_is h =
       subst (λ (held : State). IsNext held Left it (change_at o.kind it (near_of o.state Left it)) o2.state) is_state h.state
-      ∙ ap (λ (c : Change). state.Groups (group.next s it (shown_in c)))
+      ∙ ap (λ (c : Change). state.Groups (group.next s it c.shown))
       (ap₂ (λ (what : Kind) (held : State). change_at what it (near_of held Left it)) is_kind is_state)
 
   -- there is room for the item where few rows were taken
@@ -193,7 +195,7 @@ group_at i by items w ws ns k o o2 log q t b n d e it outs s f puts fin =
     group_made w (grouping (Grouped by items)) i (width_at ws i) (width_at ws k) (most_rows ns i) (max 1 (tick_rows ns i)) g d.values d.bag d.opens refl
     (subst (IsKindWide (width_at ws i) (width_at ws k)) run.kind wide.one.kind) it n f.rest t b
     f.some run.stands run.few (subst (λ q. GoodOne (grouping (Grouped by items)) d.values q t b n d.bag d.opens) front good)
-    (same_of (ap (λ shape. plan.shaped_rows shape t) (sym shape)))
+    (same_of (ap (λ shape. valued.shaped_rows shape t) (sym shape)))
     (λ h. omega (arith, grouped_few g.group t, h.weighs (λ x. 1), s.room.left n)) (omega (arith, s.room.always i))
     (subst (IsSideWide (width_at ws i) t) front wide.one.side) wide.puts (subst (StaysWithin (most_rows ns i) (count t)) front few.0) few.1 in
     subst (λ q. StepMade w ws ns k (plan.Group i by items) (at_unary q t b n) outs o2 log) (sym front) (record {

@@ -12,8 +12,8 @@ use Rattle.values.specs.Answers.{StreamOperator, shown_at}
 use Rattle.op_queue.specs.Entries.{Entry}
 use Rattle.op_queue.specs.Logs.{Closed}
 use Rattle.windows.specs.Laws.{IsRising}
-use Rattle.operators.specs.Inboxes.{IsInboxWithin, entries_in, is_fed}
-use Rattle.operators.specs.Operators.{PlainOperator}
+use Rattle.operators.specs.Inboxes.{IsInboxWithin, is_fed}
+use Rattle.operators.specs.Ready.{PlainOperator, entries_in}
 use Rattle.operators.specs.declared.inboxes.Inbox.{Inbox}
 use Rattle.operators.proofs.InboxLemmas.{entries_fed}
 use Rattle.plan.specs.Nodes as plan
@@ -21,21 +21,25 @@ use Rattle.plan.specs.Nodes.{Window, Select, Join, Project, Group, Distinct, ToS
 use Rattle.plan.specs.Scope.{Tables}
 use Rattle.reference.specs.Commands.{Heartbeat, after}
 use Rattle.reference.specs.Machine.{Machine, Place, Registered, Stream, input_at, opens}
-use Rattle.stream_store.specs.Closing.{QueuesGain, closed_of}
+use Rattle.stream_store.specs.Closing.{closed_of}
+use Rattle.stream_store.specs.Gains.{QueuesGain}
 use Rattle.laws_dataflow.specs.Laws as nets
 use Rattle.laws_dataflow.specs.Laws.{IsGood}
 use Rattle.laws_dataflow.specs.Windows.{AreBelow, Brings, opened}
 use Rattle.laws_dataflow.specs.Worlds.{Beat, fed_cell}
 use Rattle.laws_dataflow.specs.Nets.{Node, window, unary, join, World, Cell, at_window, at_unary, at_join, cell_shown}
 use Rattle.laws_dataflow.specs.Operators.{net_of, node_of}
-use Rattle.laws_dataflow.specs.Plans.{below_root, comes, inputs_of, world_of}
+use Rattle.laws_dataflow.specs.Plans.{comes, inputs_of, world_of}
+use Rattle.laws_dataflow.specs.Roots.{below_root}
 use Rattle.laws_dataflow.proofs.MachineLemmas.{heartbeat_comes, heartbeat_inputs, machine_beats}
 use Rattle.laws_dataflow.proofs.AnswerLemmas.{shaped}
 use Rattle.laws_dataflow.proofs.PlanLemmas.{Shaped}
 use Rattle.laws_queries.specs.Runs.{Runs, RunsWindow}
 use Rattle.laws_queries.specs.Widths.{AreEntries, IsRow, IsWide, width_at}
 use Rattle.laws_queries.specs.Counts.{AreFew, AreWindowRowsFew, StaysWithin, most_rows, source_rows}
-use Rattle.laws_queries.specs.Queries.{HasInboxes, IsLeftInbox, IsRunning, Reads, ReadsRows, RunsAt, elements_at, log_at, no_log, node_at, operator_at, place_of, source_of, stream_log}
+use Rattle.laws_queries.specs.Queries.{HasInboxes, IsLeftInbox, IsRunning, Reads, ReadsRows, RunsAt}
+use Rattle.laws_queries.specs.Queries.{elements_at}
+use Rattle.laws_queries.specs.Plain.{log_at, no_log, node_at, operator_at, place_of, source_of, stream_log}
 use Rattle.laws_queries.proofs.BeatLemmas.{IsLaterIn, PlaceBeat, place_beat}
 use Rattle.laws_queries.proofs.ClosingLemmas.{perm_length}
 use Rattle.laws_queries.proofs.FeedLemmas.{wide_append}

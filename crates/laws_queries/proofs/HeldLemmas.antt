@@ -4,7 +4,8 @@ use Rattle.std.specs.List.{All}
 use Rattle.std.proofs.lemmas.List.{length-append, length-map, length-take-le}
 use Rattle.std.proofs.lemmas.List.Elements.{All-append, All-cons, All-drop, All-filter, All-head, All-map, All-nil, All-tail, All-take}
 use Rattle.values.specs.Row.{Row, same_row}
-use Rattle.values.specs.Window.{Element, plain}
+use Rattle.values.specs.Window.{Element}
+use Rattle.values.specs.Plain.{plain}
 use Rattle.op_queue.specs.Entries.{Entry, RowAt, TickAt}
 use Rattle.op_queue.specs.Items.{entries_of, item_instant}
 use Rattle.op_queue.specs.Paths.{rows_in}

@@ -8,9 +8,8 @@ use Rattle.op_queue.specs.Items.{entries_of}
 use Rattle.op_queue.specs.Logs.{Closed}
 use Rattle.op_queue.specs.declared.item.Item.{Item}
 use Rattle.turn.specs.declared.outcomes.Change.{Change}
-use Rattle.operators.specs.Inboxes.{entries_in}
-use Rattle.operators.specs.Operators.{PlainOperator, IsFinished, other, waiting}
-use Rattle.operators.specs.States.{is_left}
+use Rattle.operators.specs.Operators.{IsFinished, other}
+use Rattle.operators.specs.Ready.{PlainOperator, entries_in, is_left, waiting}
 use Rattle.laws_queries.specs.Steps.{IsFirst}
 
 drop_front : (p q : List (Entry Row)) → drop (length p) (p ++ q) ≡ q

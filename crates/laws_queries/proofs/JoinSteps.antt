@@ -17,17 +17,20 @@ use Rattle.op_queue.specs.declared.item.Item.TheVariants.{Rows, Tick}
 use Rattle.op_queue.proofs.PathLemmas.{Leads-front_legal, rows_in-batch}
 use Rattle.join.specs.Pairs as pairs
 use Rattle.join.specs.Turns as join
-use Rattle.join.specs.Turns.{JoinState, SideState, met, matches, side_of, with_marks}
+use Rattle.join.specs.Turns.{met, matches, with_marks}
+use Rattle.join.specs.States.{JoinState, SideState, side_of}
 use Rattle.join.specs.Laws as joins
 use Rattle.join.proofs.LawLemmas.{left_law, right_law, tick_law}
 use Rattle.turn.specs.Turns.{Outs, Put, Answered, change_at, outs_at}
 use Rattle.turn.specs.declared.kinds.Kind.{Kind}
 use Rattle.turn.specs.declared.kinds.Kind.TheVariants as kind
-use Rattle.operators.specs.Operators.{PlainOperator, HasNamedColumns, IsFinished, waiting}
-use Rattle.operators.specs.States.{HasColumns, HasStood, IsNext, Takes, near_of, usable}
+use Rattle.operators.specs.Operators.{HasNamedColumns, IsFinished}
+use Rattle.operators.specs.States.{HasColumns, HasStood, IsNext, Takes, near_of}
+use Rattle.operators.specs.Ready.{PlainOperator, usable, waiting}
 use Rattle.operators.specs.declared.states.State.{State}
 use Rattle.operators.specs.declared.states.State.TheVariants as state
 use Rattle.plan.specs.Nodes as plan
+use Rattle.plan.specs.Values as valued
 use Rattle.laws_dataflow.specs.Nets as nets
 use Rattle.laws_dataflow.specs.Nets.{World, Cell, at_window, at_unary, at_join, Input, Turn, batch, past}
 use Rattle.laws_dataflow.specs.Operators.{joining}
@@ -193,8 +196,8 @@ module _ (i j : ℕ) (keys : List plan.Key) (w : World) (ws : List ℕ) (ns : Li
       let ys : List (Bool × Row) = join.pairs Left xs (matches g Left xs) in
       let law : Turns (pairs.joined g.keys l m) (joins.left_pairs g t xs) (pairs.joined g.keys a.bag m) × joins.Stands (join.next g Left (Rows t xs)) a.bag m =
       left_law g t xs l a.bag m s.runs.stands table legal a.adds in
-      let turns : Turns (plan.joined keys l m) ys (plan.joined keys a.bag m) =
-      subst (λ u. Turns u ys (plan.joined keys a.bag m)) (s.runs.meets l m)
+      let turns : Turns (valued.joined keys l m) ys (valued.joined keys a.bag m) =
+      subst (λ u. Turns u ys (valued.joined keys a.bag m)) (s.runs.meets l m)
       (subst (λ u. Turns (pairs.joined g.keys l m) ys u) (s.runs.meets a.bag m)
       (subst (λ zs. Turns (pairs.joined g.keys l m) zs (pairs.joined g.keys a.bag m)) (rows_in-batch t ys) law.0)) in
       let wide : (x : Row) → AreRows (width_at ws j) (met Right g.keys g.right x) =
@@ -207,7 +210,7 @@ module _ (i j : ℕ) (keys : List plan.Key) (w : World) (ws : List ℕ) (ns : Li
         right = r;
         left_bag = a.bag;
         right_bag = m;
-        shown = plan.joined keys a.bag m;
+        shown = valued.joined keys a.bag m;
         opens = n;
         left_mark = false;
         right_mark = y;
@@ -245,8 +248,8 @@ module _ (i j : ℕ) (keys : List plan.Key) (w : World) (ws : List ℕ) (ns : Li
       let ys : List (Bool × Row) = join.pairs Right xs (matches g Right xs) in
       let law : Turns (pairs.joined g.keys l m) (joins.right_pairs g t xs) (pairs.joined g.keys l a.bag) × joins.Stands (join.next g Right (Rows t xs)) l a.bag =
       right_law g t xs l m a.bag s.runs.stands table legal a.adds in
-      let turns : Turns (plan.joined keys l m) ys (plan.joined keys l a.bag) =
-      subst (λ u. Turns u ys (plan.joined keys l a.bag)) (s.runs.meets l m)
+      let turns : Turns (valued.joined keys l m) ys (valued.joined keys l a.bag) =
+      subst (λ u. Turns u ys (valued.joined keys l a.bag)) (s.runs.meets l m)
       (subst (λ u. Turns (pairs.joined g.keys l m) ys u) (s.runs.meets l a.bag)
       (subst (λ zs. Turns (pairs.joined g.keys l m) zs (pairs.joined g.keys l a.bag)) (rows_in-batch t ys) law.0)) in
       let wide : (x : Row) → AreRows (width_at ws i) (met Left g.keys g.left x) =
@@ -259,7 +262,7 @@ module _ (i j : ℕ) (keys : List plan.Key) (w : World) (ws : List ℕ) (ns : Li
         right = r;
         left_bag = l;
         right_bag = a.bag;
-        shown = plan.joined keys l a.bag;
+        shown = valued.joined keys l a.bag;
         opens = n;
         left_mark = x;
         right_mark = false;

@@ -11,7 +11,8 @@ use Rattle.turn.specs.declared.excerpts.Excerpt.{Excerpt}
 use Rattle.turn.specs.declared.excerpts.Excerpt.TheVariants as near
 use Rattle.turn.specs.declared.kinds.Kind.{Kind}
 use Rattle.turn.specs.declared.kinds.Kind.TheVariants as kind
-use Rattle.operators.specs.Operators.{Belongs, PlainOperator}
+use Rattle.operators.specs.Operators.{Belongs}
+use Rattle.operators.specs.Ready.{PlainOperator}
 use Rattle.operators.specs.States.{near_of}
 use Rattle.operators.specs.declared.states.State.{State}
 use Rattle.operators.specs.declared.states.State.TheVariants as state

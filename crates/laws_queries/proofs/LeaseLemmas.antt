@@ -4,12 +4,11 @@ use Rattle.std.specs.Option.{option_map}
 use Rattle.values.specs.Row.{Row}
 use Rattle.column.specs.declared.batch.Side.{Side}
 use Rattle.column.specs.declared.batch.Side.TheVariants.{Left, Right}
-use Rattle.op_queue.specs.Entries.{Entry, RowAt, TickAt}
-use Rattle.op_queue.specs.Items.{IsFrontPart, entries_of, front_of}
+use Rattle.op_queue.specs.Entries.{Entry, RowAt, TickAt, front_of}
+use Rattle.op_queue.specs.Items.{IsFrontPart, entries_of}
 use Rattle.op_queue.specs.Logs.{Closed}
 use Rattle.op_queue.specs.declared.item.Item.{Item}
-use Rattle.operators.specs.Operators.{PlainOperator, first_ready, front_instant, ready_at, waiting}
-use Rattle.operators.specs.States.{usable}
+use Rattle.operators.specs.Ready.{PlainOperator, first_ready, front_instant, ready_at, usable, waiting}
 use Rattle.laws_queries.specs.Leases.{IsReady, LeasesStandFirst}
 use Rattle.laws_queries.specs.Steps.{IsFirst}
 

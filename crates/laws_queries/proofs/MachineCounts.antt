@@ -12,7 +12,7 @@ use Rattle.values.specs.Window.{Element, Window, input_of, shows}
 use Rattle.values.specs.Answers.{shown_at}
 use Rattle.cql_reader.specs.Query as syntax
 use Rattle.cql_reader.specs.Fault as text
-use Rattle.cql_reader.specs.Reading.{reading}
+use Rattle.cql_reader.specs.Judging.{reading}
 use Rattle.cql_reader.specs.WellFormed.{IsWellFormed}
 use Rattle.cql_reader.proofs.WellFormed.{well_formed}
 use Rattle.names.specs.Catalog as catalogs

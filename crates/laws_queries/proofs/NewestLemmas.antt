@@ -90,7 +90,7 @@ newest m name source given e h rows =
     record {
       found_as = ok.f;
       is = ok.is;
-      query = text_query m given name source (Rattle.cql_reader.specs.Reading.reading source) refl ok.f ok.is;
+      query = text_query m given name source (Rattle.cql_reader.specs.Judging.reading source) refl ok.f ok.is;
       fresh = fresh_query m name ok.f h rows;
     }
 

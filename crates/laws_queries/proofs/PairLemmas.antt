@@ -5,7 +5,7 @@ use Rattle.std.proofs.lemmas.List.{length-append}
 use Rattle.std.proofs.lemmas.List.Elements.{All-nil, All-cons, All-head, All-tail, All-append, All-filter}
 use Rattle.std.proofs.Math.Nat.{mul-le-mul_right, suc-mul}
 use Rattle.values.specs.Row.{Row, row_cmp}
-use Rattle.values.specs.Value.{IsAnswerValue}
+use Rattle.values.specs.Ranges.{IsAnswerValue}
 use Rattle.values.proofs.Order.{row_order}
 use Rattle.column.specs.declared.batch.Side.{Side}
 use Rattle.column.specs.declared.batch.Side.TheVariants.{Left, Right}
@@ -17,7 +17,8 @@ use Rattle.group.proofs.BagLemmas.{after_row}
 use Rattle.group.proofs.FigureLemmas.{numbers_le}
 use Rattle.join.specs.Pairs.{fits, pair, joined}
 use Rattle.join.specs.Layouts.{other, order, chosen, agrees}
-use Rattle.join.specs.Turns.{SideState, met, beside, pairs_of, pairs, kept_of}
+use Rattle.join.specs.Turns.{met, beside, pairs_of, pairs, kept_of}
+use Rattle.join.specs.States.{SideState}
 use Rattle.join.specs.Laws.{StandsFor}
 use Rattle.join.proofs.LawLemmas.{weigh-met, joined_by_right}
 use Rattle.join.proofs.MatchLemmas.{fits_on, fits-right}

@@ -17,11 +17,12 @@ use Rattle.windows.proofs.WindowLaw.{passes_ticks}
 use Rattle.group.specs.Groups.{grouped}
 use Rattle.group.proofs.DistinctLemmas.{distinct_law}
 use Rattle.plan.specs.Nodes as plan
-use Rattle.plan.specs.Nodes.{shaped_rows}
+use Rattle.plan.specs.Values.{shaped_rows}
 use Rattle.reference.specs.Machine.{Machine, Registered}
 use Rattle.to_stream.specs.Turns as root
 use Rattle.operators.specs.Inboxes.{IsInboxWithin, ReadsOn, is_fed}
-use Rattle.operators.specs.Operators.{Belongs, PlainOperator, waiting}
+use Rattle.operators.specs.Operators.{Belongs}
+use Rattle.operators.specs.Ready.{PlainOperator, waiting}
 use Rattle.operators.specs.declared.inboxes.Inbox.{Inbox}
 use Rattle.operators.specs.declared.inboxes.Inbox.TheVariants.{First, Between}
 use Rattle.operators.specs.declared.states.State.{State}
@@ -31,7 +32,8 @@ use Rattle.laws_dataflow.specs.Laws.{IsGood}
 use Rattle.laws_dataflow.specs.Nets.{World, Cell, Input, at_window, at_unary, at_join, cell_next, left_of, right_of, input_of, past}
 use Rattle.laws_dataflow.specs.Operators.{net_of, node_of, selecting, listing, grouping, once}
 use Rattle.laws_dataflow.specs.Passes.{Clears, reached, ended, ticked, Passes, stays, window_passes, unary_passes, join_passes}
-use Rattle.laws_dataflow.specs.Plans.{below_root, least_of, value_of, world_of}
+use Rattle.laws_dataflow.specs.Plans.{least_of, value_of, world_of}
+use Rattle.laws_dataflow.specs.Roots.{below_root}
 use Rattle.laws_dataflow.proofs.AnswerLemmas.{query_laid, query_planned}
 use Rattle.laws_dataflow.proofs.PassLemmas.{query_passes}
 use Rattle.laws_dataflow.proofs.QuietLemmas.{group_quiet, root_moved, root_silent, shows_held}
@@ -40,7 +42,9 @@ use Rattle.laws_queries.specs.Widths.{AreEntries, AreRows, IsBothWide, IsGroupWi
 use Rattle.laws_queries.specs.Counts.{AreFew, StaysWithin, count, most_rows, tick_rows}
 use Rattle.laws_queries.specs.Passing.{IsQuiet, passed_state}
 use Rattle.laws_queries.specs.PassingCells.{CellsPass, OperatorPasses, RootPasses, left_at, right_at}
-use Rattle.laws_queries.specs.Queries.{HasInboxes, IsLeftInbox, IsRunning, Reads, RunsAt, RunsAtRoot, log_at, node_at, operator_at, place_of}
+use Rattle.laws_queries.specs.Queries.{HasInboxes, IsLeftInbox, IsRunning, Reads, RunsAt}
+use Rattle.laws_queries.specs.Queries.{RunsAtRoot}
+use Rattle.laws_queries.specs.Plain.{log_at, node_at, operator_at, place_of}
 use Rattle.laws_queries.specs.Steps.{Stands}
 use Rattle.laws_queries.proofs.CountLemmas.{stays_now}
 

@@ -15,7 +15,10 @@ use Rattle.values.specs.Answers.{StreamOperator, Resolved, shown_at}
 use Rattle.names.specs.Split.{all_conjuncts, join_keys, join_keys_of, own_of, remaining}
 use Rattle.op_queue.specs.Signed.{weigh}
 use Rattle.plan.specs.Nodes as plan
-use Rattle.plan.specs.Nodes.{Key, Window as WindowNode, Select, Join, Project, Group, Distinct, ToStream, node_value, values_of, pair, holds_all, joined}
+use Rattle.plan.specs.Values as valued
+use Rattle.plan.specs.Nodes.{Key, Window as WindowNode, Select, Join, Project, Group, Distinct}
+use Rattle.plan.specs.Nodes.{ToStream}
+use Rattle.plan.specs.Values.{node_value, values_of, pair, holds_all, joined}
 use Rattle.plan.specs.Build.{all_alone, end_nodes, join_nodes, joins_of, key_placed, moved, nodes_over, placed, plan_of, rest_nodes, rest_top, shape_node, source_nodes, top_of, tops}
 use Rattle.plan.proofs.Numbers.{Below, Rises}
 use Rattle.reference.specs.Commands.{rows_of_each}
@@ -23,7 +26,8 @@ use Rattle.reference.specs.declared.limits.TheConstants.{MAX_STREAM_ROWS, MAX_RO
 use Rattle.reference.specs.Machine.{Machine, Registered, Stream, Place, input_at}
 use Rattle.laws_dataflow.specs.Nets.{left_of, right_of}
 use Rattle.laws_dataflow.specs.Operators.{net_of}
-use Rattle.laws_dataflow.specs.Plans.{arrivals_at, bags_of, below_root, comes, inputs_of, value_of}
+use Rattle.laws_dataflow.specs.Plans.{arrivals_at, bags_of, comes, inputs_of, value_of}
+use Rattle.laws_dataflow.specs.Roots.{below_root}
 use Rattle.laws_dataflow.proofs.PlanLemmas.{shaped_plan}
 use Rattle.laws_queries.specs.Counts.{count, most_rows, most_rows_by, rows_of, source_rows, sources_of, tick_rows, tick_rows_by}
 use Rattle.laws_queries.specs.Rooms.{CountsArrivals, HasShortInputs, IsBounded, PlanHasRoom, RootHasRoom}
@@ -385,7 +389,7 @@ few_distinct (r ∷ rows) =
 few_pairs : (ks : List Key) (l : Row) (rs : List Row) → length (flat_map (pair ks l) rs) ≤ length rs
 few_pairs ks l [] = omega arith
 few_pairs ks l (r ∷ rs) =
-    let one : length (pair ks l r) ≤ 1 = few_either (plan.fits ks l r) 1 ((l ++ r) ∷ []) [] (omega arith) (omega arith) in
+    let one : length (pair ks l r) ≤ 1 = few_either (valued.fits ks l r) 1 ((l ++ r) ∷ []) [] (omega arith) (omega arith) in
     omega (arith, one, few_pairs ks l rs, length-append (pair ks l r) (flat_map (pair ks l) rs))
 
 few_joined : (ks : List Key) (ls rs : List Row) → length (joined ks ls rs) ≤ length ls * length rs
@@ -418,13 +422,13 @@ bounds-push [] (m ∷ ns) v n b h = absurd b
 bounds-push (u ∷ vs) [] v n b h = absurd b
 bounds-push (u ∷ vs) (m ∷ ns) v n b h = (b.0, bounds-push vs ns v n b.1 h)
 
-few_grouped : (shape : Shape) (rows : List Row) → length (plan.shaped_rows shape rows) ≤ max 1 (length rows)
+few_grouped : (shape : Shape) (rows : List Row) → length (valued.shaped_rows shape rows) ≤ max 1 (length rows)
 few_grouped (Listed columns) rows = omega (arith, length-map (map (λ (r : Row). r ∷ []) rows) (λ (rows : List Row). map (field rows) columns), length-map rows (λ (r : Row). r ∷ []))
 few_grouped (Grouped columns items) rows =
     let kept : List (List Row) = map (λ (r : Row). r ∷ []) rows in
     omega (arith, length-map (keys_of columns kept) (group_row columns items kept), few_keyed columns kept, length-map rows (λ (r : Row). r ∷ []))
 
-few_listed : (columns : List SourceColumn) (rows : List Row) → length (plan.shaped_rows (Listed columns) rows) ≤ length rows
+few_listed : (columns : List SourceColumn) (rows : List Row) → length (valued.shaped_rows (Listed columns) rows) ≤ length rows
 few_listed columns rows = omega (arith, length-map (map (λ (r : Row). r ∷ []) rows) (λ (rows : List Row). map (field rows) columns), length-map rows (λ (r : Row). r ∷ []))
 
 module _ (most : ℕ) (ws : List (List Row)) (short : (s : ℕ) → length (get_or ws s []) ≤ most) where

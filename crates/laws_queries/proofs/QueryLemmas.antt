@@ -14,14 +14,16 @@ use Rattle.op_queue.proofs.SignedLemmas.{Same-refl}
 use Rattle.to_stream.specs.Turns as root
 use Rattle.turn.specs.Turns.{Put}
 use Rattle.operators.specs.Inboxes.{is_fed}
-use Rattle.operators.specs.Operators.{IsFed, IsFinished, PlainOperator, inbox_of}
+use Rattle.operators.specs.Operators.{IsFed, IsFinished}
+use Rattle.operators.specs.Ready.{PlainOperator, inbox_of}
 use Rattle.physical_plans.specs.Wiring.{wire_from}
 use Rattle.plan.specs.Nodes as plan
 use Rattle.reference.specs.Machine.{Machine, Registered}
 use Rattle.laws_dataflow.specs.Laws.{IsGood, TurnsKeep}
 use Rattle.laws_dataflow.specs.Nets.{Cell, at_window, at_unary, at_join, Turn, Feeds, Planned, Laid, cell_next, cell_shown, input_of, left_of, right_of}
 use Rattle.laws_dataflow.specs.Operators.{net_of}
-use Rattle.laws_dataflow.specs.Plans.{below_root, consumer_of, least_of, value_of, world_of}
+use Rattle.laws_dataflow.specs.Plans.{consumer_of, least_of, value_of, world_of}
+use Rattle.laws_dataflow.specs.Roots.{below_root}
 use Rattle.laws_dataflow.specs.Queries.{GoodRoot}
 use Rattle.laws_dataflow.proofs.AnswerLemmas.{query_laid, query_planned, shaped, turns_keep}
 use Rattle.laws_dataflow.proofs.PlanLemmas.{Shaped}
@@ -31,7 +33,9 @@ use Rattle.laws_queries.specs.Widths.{AreEntries, width_at}
 use Rattle.laws_queries.specs.Counts.{StaysWithin, count, most_rows}
 use Rattle.laws_queries.specs.Steps.{IsFirst, MayLaw, Stands, StepLaw, StepMade, outs_at_first}
 use Rattle.laws_queries.specs.Rooms.{PlanHasRoom}
-use Rattle.laws_queries.specs.Queries.{IsRunning, IsTurned, change_at_first, MayFeed, MayFinish, RunsAt, RunsAtRoot, log_at, node_at, operator_at}
+use Rattle.laws_queries.specs.Queries.{IsRunning, IsTurned, change_at_first, MayFeed, MayFinish}
+use Rattle.laws_queries.specs.Queries.{RunsAt, RunsAtRoot}
+use Rattle.laws_queries.specs.Plain.{log_at, node_at, operator_at}
 use Rattle.laws_queries.proofs.FedLemmas.{fed_on, feeds_on, few_fed, forward_fed, forward_on, left_more, runs_fed, wide_fed}
 use Rattle.laws_queries.proofs.FeedLemmas.{few_append, wide_append}
 use Rattle.laws_queries.proofs.KindLemmas.{Puts, runs_belongs, runs_puts}

@@ -9,14 +9,16 @@ use Rattle.op_queue.specs.Logs.{Closed}
 use Rattle.op_queue.specs.declared.item.Item.{Item}
 use Rattle.turn.specs.declared.outcomes.Change.{Change}
 use Rattle.operators.specs.Inboxes.{IsInboxWithin, ReadsOn, is_fed}
-use Rattle.operators.specs.Operators.{IsFed, IsFinished, PlainOperator, inbox_of, waiting}
+use Rattle.operators.specs.Operators.{IsFed, IsFinished}
+use Rattle.operators.specs.Ready.{PlainOperator, inbox_of, waiting}
 use Rattle.operators.specs.declared.inboxes.Inbox.{Inbox}
 use Rattle.operators.specs.declared.inboxes.Inbox.TheVariants.{First, Between}
 use Rattle.plan.specs.Nodes as plan
 use Rattle.plan.specs.Nodes.{Window, Select, Join, Project, Group, Distinct, ToStream}
 use Rattle.reference.specs.Machine.{Registered}
 use Rattle.laws_queries.specs.Steps.{IsFirst}
-use Rattle.laws_queries.specs.Queries.{HasInboxes, IsLeftInbox, Reads, place_of}
+use Rattle.laws_queries.specs.Queries.{HasInboxes, IsLeftInbox, Reads}
+use Rattle.laws_queries.specs.Plain.{place_of}
 use Rattle.laws_queries.proofs.WireLemmas.{TakesAt}
 
 -- ALL INBOXES are within their logs

@@ -5,14 +5,12 @@ use Rattle.values.specs.Row.{Row}
 use Rattle.values.specs.Window.{Element, Window as Told}
 use Rattle.column.specs.declared.batch.Side.{Side}
 use Rattle.column.specs.declared.batch.Side.TheVariants.{Left, Right}
-use Rattle.op_queue.specs.Entries.{Entry, RowAt, TickAt}
-use Rattle.op_queue.specs.Items.{front_of}
+use Rattle.op_queue.specs.Entries.{Entry, RowAt, TickAt, front_of}
 use Rattle.op_queue.specs.Logs.{Closed}
 use Rattle.op_queue.specs.Paths.{Leads}
 use Rattle.op_queue.proofs.PathLemmas.{Leads-empty}
 use Rattle.to_stream.specs.Turns as root
-use Rattle.operators.specs.Operators.{PlainOperator, first_ready, front_instant, ready, ready_at, waiting}
-use Rattle.operators.specs.States.{usable}
+use Rattle.operators.specs.Ready.{PlainOperator, first_ready, front_instant, ready, ready_at, usable, waiting}
 use Rattle.operators.specs.declared.states.State.{State}
 use Rattle.operators.specs.declared.states.State.TheVariants as state
 use Rattle.plan.specs.Nodes as plan
@@ -20,13 +18,15 @@ use Rattle.plan.specs.Nodes.{Window, Select, Join, Project, Group, Distinct, ToS
 use Rattle.reference.specs.Machine.{Machine, Registered, closed_answers, until_for}
 use Rattle.laws_dataflow.specs.Nets.{World, Cell, Planned, at_window, at_unary, at_join, IdleCell, cell_next, cell_shown}
 use Rattle.laws_dataflow.specs.Operators.{net_of}
-use Rattle.laws_dataflow.specs.Plans.{below_root, least_of, value_of, world_of}
+use Rattle.laws_dataflow.specs.Plans.{least_of, value_of, world_of}
+use Rattle.laws_dataflow.specs.Roots.{below_root}
 use Rattle.laws_dataflow.specs.Queries.{Idle}
 use Rattle.laws_dataflow.proofs.AnswerLemmas.{machine_begins, machine_complete, query_least, query_planned, shaped}
 use Rattle.laws_dataflow.proofs.IdleLemmas.{all_idle}
 use Rattle.laws_queries.specs.Runs.{Runs, RunsRoot, WindowStands}
 use Rattle.laws_queries.specs.Widths.{width_at}
-use Rattle.laws_queries.specs.Queries.{IsRunning, NoneReady, log_at, node_at, operator_at}
+use Rattle.laws_queries.specs.Queries.{IsRunning, NoneReady}
+use Rattle.laws_queries.specs.Plain.{log_at, node_at, operator_at}
 
 -- NOTHING STANDS FIRST in an empty queue alone
 front_none : (es : List (Entry Row)) → option_map front_instant (front_of es) ≡ None → es ≡ []

@@ -12,7 +12,8 @@ use Rattle.std.proofs.lemmas.Map.Keys.{IsDistinct-from_sorted}
 use Rattle.std.proofs.lemmas.Map.Views.{All-values_from_lookup}
 use Rattle.lane_kernels.specs.Lanes.{IsWithin}
 use Rattle.values.specs.Row.{Row, value_at, value_cmp, same_row}
-use Rattle.values.specs.Value.{IsAnswerValue, answer_max}
+use Rattle.values.specs.Value.{answer_max}
+use Rattle.values.specs.Ranges.{IsAnswerValue}
 use Rattle.values.specs.Condition.{SourceColumn, field}
 use Rattle.values.specs.Resolved.{column_of}
 use Rattle.values.specs.declared.resolved.ListItem.{ListItem}

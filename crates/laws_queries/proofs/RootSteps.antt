@@ -16,8 +16,9 @@ use Rattle.to_stream.specs.Turns.{HasRoom, State, near, next, out}
 use Rattle.to_stream.proofs.StepLemmas.{has_room, step_law}
 use Rattle.turn.specs.Turns.{Outs, Put, Answered, change_at, outs_at}
 use Rattle.turn.specs.declared.outcomes.Change.{Change}
-use Rattle.operators.specs.Operators.{PlainOperator, HasNamedColumns, IsFinished, waiting}
-use Rattle.operators.specs.States.{HasColumns, HasStood, IsNext, Takes, near_of, usable}
+use Rattle.operators.specs.Operators.{HasNamedColumns, IsFinished}
+use Rattle.operators.specs.States.{HasColumns, HasStood, IsNext, Takes, near_of}
+use Rattle.operators.specs.Ready.{PlainOperator, usable, waiting}
 use Rattle.laws_dataflow.specs.Nets.{Input, batch}
 use Rattle.laws_dataflow.specs.Queries.{GoodRoot, before}
 use Rattle.laws_dataflow.proofs.FrontLemmas.{front_instant}

@@ -6,7 +6,8 @@ use Rattle.std.proofs.lemmas.Bool.{leb-true}
 use Rattle.std.proofs.lemmas.Int.{ints}
 use Rattle.std.proofs.lemmas.List.Elements.{All-cons, All-nil}
 use Rattle.values.specs.Row.{Row}
-use Rattle.values.specs.Value.{IsAnswerNumber, IsAnswerValue, stream_max}
+use Rattle.values.specs.Value.{stream_max}
+use Rattle.values.specs.Ranges.{IsAnswerNumber, IsAnswerValue}
 use Rattle.values.specs.Window.{Element}
 use Rattle.names.specs.Faults.{first_of}
 use Rattle.plan.proofs.Lists.{each-append}
@@ -20,7 +21,8 @@ use Rattle.reference.proofs.StreamLemmas.{alone, none_first, none_later}
 use Rattle.laws_queries.specs.Widths.{IsRow}
 use Rattle.laws_queries.specs.Machines.{IsMachine, IsStream, columns_of}
 use Rattle.stream_store.specs.Stored.{IsByArrival}
-use Rattle.laws_queries.specs.Queries.{ReadsRows, elements_at, place_of}
+use Rattle.laws_queries.specs.Queries.{ReadsRows, elements_at}
+use Rattle.laws_queries.specs.Plain.{place_of}
 use Rattle.laws_queries.specs.Rows.{AreSourceWidths, HasRows, HaveRows, RowsStand}
 
 -- ARRIVALS

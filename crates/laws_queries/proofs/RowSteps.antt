@@ -4,7 +4,7 @@ use Rattle.std.specs.List.{All}
 use Rattle.std.proofs.lemmas.List.{length-map}
 use Rattle.std.proofs.lemmas.List.Elements.{All-filter, All-map}
 use Rattle.values.specs.Row.{Row, value_at}
-use Rattle.values.specs.Value.{IsAnswerValue}
+use Rattle.values.specs.Ranges.{IsAnswerValue}
 use Rattle.values.specs.Condition.{SourceColumn, Condition}
 use Rattle.values.specs.Relation.{Listed}
 use Rattle.lane_kernels.specs.Steps.{StepsFit}
@@ -20,10 +20,11 @@ use Rattle.row_nodes.specs.Project.{AreColumns, columns_in, projected, projected
 use Rattle.row_nodes.proofs.RowLemmas.{filter_by}
 use Rattle.turn.specs.Turns.{Put, change_at, outs_at}
 use Rattle.operators.specs.Operators.{HasNamedColumns}
-use Rattle.operators.specs.States.{HasColumns, HasStood, IsNext, Takes, is_left, near_of, usable}
+use Rattle.operators.specs.States.{HasColumns, HasStood, IsNext, Takes, near_of}
+use Rattle.operators.specs.Ready.{is_left, usable}
 use Rattle.operators.specs.declared.states.State.TheVariants as state
 use Rattle.plan.specs.Nodes as plan
-use Rattle.plan.specs.Nodes.{holds_all, shaped_rows}
+use Rattle.plan.specs.Values.{holds_all, shaped_rows}
 use Rattle.plan.specs.Views.{columns_at}
 use Rattle.laws_dataflow.specs.Nets.{Unary, World, Cell, at_window, at_unary, at_join, GoodOne, Turn, batch, unary}
 use Rattle.laws_dataflow.specs.Operators.{Tell, listing, selecting}

@@ -4,7 +4,8 @@ use Rattle.std.specs.List.{AllByRecursion}
 use Rattle.std.proofs.lemmas.List.{get_or-map, length-map}
 use Rattle.std.proofs.lemmas.List.FromFn.{length-map-range_with_len}
 use Rattle.values.specs.declared.TheConstants.{MAX_COLUMNS}
-use Rattle.values.specs.Resolved.{condition_of, operator_of, window_of}
+use Rattle.values.specs.Resolved.{condition_of, window_of}
+use Rattle.values.specs.StreamOperators.{operator_of}
 use Rattle.values.specs.declared.resolved.ListItem.TheVariants as listed
 use Rattle.values.specs.declared.resolved.StreamOperator.{StreamOperator}
 use Rattle.values.specs.declared.resolved.Window.{Window}
@@ -20,8 +21,8 @@ use Rattle.group.specs.Turns as groups
 use Rattle.group.proofs.LawLemmas.{begins}
 use Rattle.join.specs.Turns as join
 use Rattle.turn.specs.declared.kinds.Kind.TheVariants as kind
-use Rattle.operators.specs.Inboxes.{entries_in, is_fed}
-use Rattle.operators.specs.Operators.{PlainOperator, waiting}
+use Rattle.operators.specs.Inboxes.{is_fed}
+use Rattle.operators.specs.Ready.{PlainOperator, entries_in, waiting}
 use Rattle.operators.specs.declared.inboxes.Inbox.{Inbox}
 use Rattle.operators.specs.declared.states.State.TheVariants as state
 use Rattle.plan.specs.Nodes as plan
@@ -31,20 +32,24 @@ use Rattle.plan.specs.declared.node.Node.TheVariants.{Window as Source, Select, 
 use Rattle.plan.proofs.Lists.{each-unmap}
 use Rattle.physical_plans.specs.Beginnings as made
 use Rattle.windows.specs.Windows.{IsFormed}
-use Rattle.physical_plans.specs.Beginnings.{AreMade, HaveNarrowRows, IsMade, IsMakeable, grouping, key_pair, nothing_waits, width_made, widths_from, window_at}
+use Rattle.physical_plans.specs.Beginnings.{AreMade, HaveNarrowRows, IsMade, IsMakeable, grouping}
+use Rattle.physical_plans.specs.Beginnings.{key_pair, width_made, widths_from, window_at}
+use Rattle.physical_plans.specs.Nothing.{nothing_waits}
 use Rattle.physical_plans.proofs.LawLemmas.{kinds_mean}
 use Rattle.reference.specs.Machine.{Machine, Place, Registered, opens}
 use Rattle.laws_dataflow.specs.Laws.{IsGood}
 use Rattle.laws_dataflow.specs.Laws as nets
 use Rattle.laws_dataflow.specs.Nets as net
 use Rattle.laws_dataflow.specs.Operators as net_nodes
-use Rattle.laws_dataflow.specs.Plans.{below_root, world_of}
+use Rattle.laws_dataflow.specs.Plans.{world_of}
+use Rattle.laws_dataflow.specs.Roots.{below_root}
 use Rattle.laws_dataflow.specs.Starts.{fresh_cell, fresh_root}
 use Rattle.laws_dataflow.proofs.AnswerLemmas.{shaped}
 use Rattle.laws_dataflow.proofs.PlanLemmas.{Shaped}
 use Rattle.laws_dataflow.proofs.StartLemmas.{machine_starts}
 use Rattle.laws_queries.specs.Counts.{AreFew, count, most_rows}
-use Rattle.laws_queries.specs.Queries.{HasInboxes, IsRunning, log_at, no_operator, node_at, operator_at, place_of, stream_log}
+use Rattle.laws_queries.specs.Queries.{HasInboxes, IsRunning}
+use Rattle.laws_queries.specs.Plain.{log_at, no_operator, node_at, operator_at, place_of, stream_log}
 use Rattle.laws_queries.specs.Machines.{columns_of, widths_of}
 use Rattle.laws_queries.specs.Rows.{AreSourceWidths}
 use Rattle.laws_queries.specs.Registrations.{IsCoded, IsFit, IsFresh, IsTextWindow, MayMake, Starts, lengths_of}
@@ -83,15 +88,13 @@ text_window [] s h = tt
 text_window (w ∷ ws) zero h = h.0
 text_window (w ∷ ws) (suc s) h = text_window ws s h.1
 
-window_is : (ws : List Window) (s : ℕ) → get_or (map window_of ws) s Rattle.values.specs.Window.Unbounded ≡ window_of (window_at ws s)
+window_is : (ws : List Window) (s : ℕ) → get_or (map window_of ws) s Rattle.values.specs.Plain.unbounded ≡ window_of (window_at ws s)
 window_is [] s = refl
 window_is (w ∷ ws) zero = refl
 window_is (w ∷ ws) (suc s) = window_is ws s
 
 makeable_window : (w : Window) → IsTextWindow (window_of w) → IsFormed w
-makeable_window (window.Range n) h = tt
-makeable_window (window.RangeSlide n l) h = h
-makeable_window window.Unbounded h = tt
+makeable_window (window.Instants r) h = tt
 makeable_window (window.LastRows columns n) h = h
 
 -- EACH IS MADE
@@ -148,7 +151,7 @@ module _ (windows : List Window) (vs ws : List ℕ) (m : Machine) (q : Registere
       let place : get_or (lengths_of q) s 0 ≡ (place_of q s).arrivals = get_or-map (λ (p : Place). p.arrivals) q.places s (record { stream = 0; arrivals = 0 }) 0 low in
       let reads : made.ReadsSource (place_of q s).arrivals q.first o.left = subst (λ p. made.ReadsSource p q.first o.left) place h.left in
       let b : WindowBegins q.first (get_or vs s 0) (window_at windows s) o.kind o.state = window_begins q.first (get_or vs s 0) (window_at windows s) o.kind o.state h.kind h.state in
-      let is : (world_of m q).windows s ≡ window_of (window_at windows s) = ap (λ l. get_or l s Rattle.values.specs.Window.Unbounded) shows ∙ window_is windows s in
+      let is : (world_of m q).windows s ≡ window_of (window_at windows s) = ap (λ l. get_or l s Rattle.values.specs.Plain.unbounded) shows ∙ window_is windows s in
       let empty : length ((world_of m q).inputs s) ≡ 0 = ap length none in
       record {
         runs = record {
@@ -351,7 +354,7 @@ module _ (vs : List ℕ) (m : Machine) (q : Registered) (fit : IsFit vs q.meanin
         let f : FitsAt vs ws k (plan.Window s) = subst (λ n. FitsAt vs ws k (node_of n)) e (fits_at any_node k l) in
         let low : s < length q.places = omega (arith, f.fits, stands.wide.places) in
         let is : node_at q k ≡ plan.Window s = node_is any_node k l ∙ ap node_of e in
-        let until : (log_at m q k).until ≤ q.first = subst (λ x. (stream_log m.streams (Rattle.laws_queries.specs.Queries.source_of q x)).until ≤ q.first) (sym is) (until_low s low) in
+        let until : (log_at m q k).until ≤ q.first = subst (λ x. (stream_log m.streams (Rattle.laws_queries.specs.Plain.source_of q x)).until ≤ q.first) (sym is) (until_low s low) in
         source_begins windows vs ws m q (log_at m q k) k (operator_at os k) narrow_ws s coded.shows text low f.width (some_of vs s fit.some f.fits) (fresh.inputs s) (fresh.came s) until
         (subst (λ n. IsMade windows vs ws (lengths_of q) q.first n (operator_at os k)) e (made_here k l))
 

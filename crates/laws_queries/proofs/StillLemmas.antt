@@ -11,8 +11,8 @@ use Rattle.op_queue.proofs.PathLemmas.{Leads-empty}
 use Rattle.plan.specs.Nodes as plan
 use Rattle.reference.specs.Machine.{Machine, Registered}
 use Rattle.to_stream.specs.Turns as root
-use Rattle.operators.specs.Inboxes.{ReadsOn, entries_in, is_fed}
-use Rattle.operators.specs.Operators.{PlainOperator, waiting}
+use Rattle.operators.specs.Inboxes.{ReadsOn, is_fed}
+use Rattle.operators.specs.Ready.{PlainOperator, entries_in, waiting}
 use Rattle.operators.specs.declared.inboxes.Inbox.{Inbox}
 use Rattle.operators.specs.declared.inboxes.Inbox.TheVariants.{First, Between}
 use Rattle.operators.specs.declared.states.State.{State}
@@ -21,13 +21,15 @@ use Rattle.laws_dataflow.specs.Windows.{Brings}
 use Rattle.laws_dataflow.specs.Nets.{World, Node, Cell, Input, at_window, at_unary, at_join, cell_shown, cell_next, left_of, right_of, input_of, past, window, unary, join, ComesLater, Planned}
 use Rattle.laws_dataflow.specs.Operators.{net_of, node_of}
 use Rattle.laws_dataflow.specs.Passes.{Clears, reached, ended, ticked}
-use Rattle.laws_dataflow.specs.Plans.{below_root, least_of, value_of, world_of}
+use Rattle.laws_dataflow.specs.Plans.{least_of, value_of, world_of}
+use Rattle.laws_dataflow.specs.Roots.{below_root}
 use Rattle.laws_dataflow.proofs.AnswerLemmas.{query_laid, query_planned, shaped}
 use Rattle.laws_dataflow.proofs.PlanLemmas.{Shaped}
 use Rattle.laws_dataflow.proofs.WindowLemmas.{Brings_after}
 use Rattle.laws_queries.specs.Passing.{IsQuiet, LeftPasses, Passes, QueryPasses, ticks}
 use Rattle.laws_queries.specs.PassingCells.{CellsPass, OperatorPasses, RootPasses, SidePasses, left_at, right_at}
-use Rattle.laws_queries.specs.Queries.{HasInboxes, IsLeftInbox, IsRunning, Reads, RunsAt, log_at, node_at, operator_at, place_of}
+use Rattle.laws_queries.specs.Queries.{HasInboxes, IsLeftInbox, IsRunning, Reads, RunsAt}
+use Rattle.laws_queries.specs.Plain.{log_at, node_at, operator_at, place_of}
 use Rattle.laws_queries.specs.Runs.{RunsGroup, RunsDistinct, RunsJoin, RunsProject, RunsSelect, RunsWindow}
 use Rattle.laws_queries.specs.Rooms.{IsBounded, PlanHasRoom}
 use Rattle.laws_queries.specs.Steps.{Stands}

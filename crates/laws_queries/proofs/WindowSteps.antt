@@ -18,8 +18,9 @@ use Rattle.windows.proofs.WindowLaw.{SameWindow, next_same}
 use Rattle.turn.specs.Turns.{Put, change_at, outs_at}
 use Rattle.turn.specs.declared.kinds.Kind.{Kind}
 use Rattle.turn.specs.declared.kinds.Kind.TheVariants as kind
-use Rattle.operators.specs.Operators.{PlainOperator, Belongs, HasNamedColumns, IsFinished}
-use Rattle.operators.specs.States.{HasColumns, HasStood, IsNext, IsWindowAfter, Takes, is_left, near_of, usable}
+use Rattle.operators.specs.Operators.{Belongs, HasNamedColumns, IsFinished}
+use Rattle.operators.specs.States.{HasColumns, HasStood, IsNext, IsWindowAfter, Takes, near_of}
+use Rattle.operators.specs.Ready.{PlainOperator, is_left, usable}
 use Rattle.operators.specs.declared.states.State.{State}
 use Rattle.operators.specs.declared.states.State.TheVariants as state
 use Rattle.plan.specs.Nodes as plan

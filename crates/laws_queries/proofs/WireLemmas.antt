@@ -13,11 +13,12 @@ use Rattle.plan.proofs.Lists.{by_test}
 use Rattle.laws_dataflow.specs.Laws as nets
 use Rattle.laws_dataflow.specs.Nets.{Laid, Takes}
 use Rattle.laws_dataflow.specs.Operators.{net_of, node_of}
-use Rattle.laws_dataflow.specs.Plans.{below_root, consumer, consumer_of, world_of}
+use Rattle.laws_dataflow.specs.Plans.{consumer, consumer_of, world_of}
+use Rattle.laws_dataflow.specs.Roots.{below_root}
 use Rattle.laws_dataflow.proofs.AnswerLemmas.{query_laid, shaped}
 use Rattle.laws_dataflow.proofs.PlanLemmas.{Shaped}
 use Rattle.reference.specs.Machine.{Machine, Registered}
-use Rattle.laws_queries.specs.Queries.{node_at}
+use Rattle.laws_queries.specs.Plain.{node_at}
 
 -- the operator takes what k puts out, on this side
 abbrev pub TakesAt : ℕ → plan.Node → Side → Type 0

@@ -5,10 +5,11 @@ use Rattle.values.specs.Window.{Element}
 use Rattle.values.specs.Needs.{is_needed}
 use Rattle.reference.specs.Machine.{Machine, Registered}
 use Rattle.reference.specs.Opening.{restarted, with_kept}
-use Rattle.operators.specs.Operators.{PlainOperator}
+use Rattle.operators.specs.Ready.{PlainOperator}
 use Rattle.laws_dataflow.specs.Laws as nets
 use Rattle.laws_dataflow.specs.Plans.{world_of}
-use Rattle.laws_queries.specs.Queries.{IsRunning, place_of}
+use Rattle.laws_queries.specs.Queries.{IsRunning}
+use Rattle.laws_queries.specs.Plain.{place_of}
 
 -- WHAT A QUERY NEEDS of each of its sources is kept; `next` is the instant after the query's mark
 pub record KeepsFor (m : Machine) (q : Registered) (next : ℕ)

@@ -5,17 +5,19 @@ use Rattle.column.specs.declared.batch.Side.{Side}
 use Rattle.op_queue.specs.Entries.{Entry}
 use Rattle.op_queue.specs.declared.item.Item.{Item}
 use Rattle.turn.specs.Turns.{Answered, Put}
-use Rattle.operators.specs.Operators.{IsFinished, PlainOperator}
+use Rattle.operators.specs.Operators.{IsFinished}
+use Rattle.operators.specs.Ready.{PlainOperator}
 use Rattle.physical_plans.specs.Wiring.{wire_from}
 use Rattle.reference.specs.Commands.{Append, Heartbeat, after, first_fault}
 use Rattle.reference.specs.Machine.{Machine, Registered, closed_answers}
-use Rattle.stream_store.specs.Closing.{QueuesGain}
+use Rattle.stream_store.specs.Gains.{QueuesGain}
 use Rattle.laws_dataflow.specs.Laws as nets
-use Rattle.laws_dataflow.specs.Plans.{below_root}
+use Rattle.laws_dataflow.specs.Roots.{below_root}
 use Rattle.laws_queries.specs.Rooms.{HasShortInputs}
 use Rattle.laws_queries.specs.Steps.{IsFirst, outs_at_first}
 use Rattle.laws_queries.specs.Queries.{IsAnswered, IsRunning, IsTurned, MayFeed, MayFinish}
-use Rattle.laws_queries.specs.Queries.{NoneReady, ReadsRows, change_at_first, log_at, operator_at}
+use Rattle.laws_queries.specs.Queries.{NoneReady, ReadsRows, change_at_first}
+use Rattle.laws_queries.specs.Plain.{log_at, operator_at}
 
 -- A TURN of an operator below the root, with the item that stands first on one of its sides
 pub record TurnsRun (vs ws : List ℕ) (m : Machine) (q : Registered) : Type 0 where

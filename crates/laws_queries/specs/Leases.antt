@@ -6,8 +6,7 @@ use Rattle.op_queue.specs.Entries.{Entry}
 use Rattle.op_queue.specs.Items.{IsFrontPart}
 use Rattle.op_queue.specs.Logs.{Closed}
 use Rattle.op_queue.specs.declared.item.Item.{Item}
-use Rattle.operators.specs.Operators.{PlainOperator, ready, waiting}
-use Rattle.operators.specs.States.{usable}
+use Rattle.operators.specs.Ready.{PlainOperator, ready, usable, waiting}
 use Rattle.laws_queries.specs.Steps.{IsFirst}
 
 -- the side can be used, and something waits there

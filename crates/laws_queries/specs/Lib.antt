@@ -5,6 +5,7 @@ pub mod Steps
 pub mod Rooms
 pub mod Roots
 pub mod Queries
+pub mod Plain
 pub mod Machines
 pub mod Examples
 pub mod Laws

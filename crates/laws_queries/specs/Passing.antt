@@ -10,14 +10,15 @@ use Rattle.op_queue.specs.Logs.{Closed}
 use Rattle.join.specs.Turns.{with_marks}
 use Rattle.to_stream.specs.Turns as root
 use Rattle.windows.specs.Windows.{Stays}
-use Rattle.operators.specs.Inboxes.{IsInboxWithin, ReadsOn, entries_in, is_fed}
-use Rattle.operators.specs.Operators.{PlainOperator, waiting}
+use Rattle.operators.specs.Inboxes.{IsInboxWithin, ReadsOn, is_fed}
+use Rattle.operators.specs.Ready.{PlainOperator, entries_in, waiting}
 use Rattle.operators.specs.declared.inboxes.Inbox.{Inbox}
 use Rattle.operators.specs.declared.inboxes.Inbox.TheVariants.{First, Between}
 use Rattle.operators.specs.declared.states.State.{State}
 use Rattle.operators.specs.declared.states.State.TheVariants as state
-use Rattle.laws_dataflow.specs.Plans.{below_root}
-use Rattle.laws_queries.specs.Queries.{IsRunning, log_at, operator_at}
+use Rattle.laws_dataflow.specs.Roots.{below_root}
+use Rattle.laws_queries.specs.Queries.{IsRunning}
+use Rattle.laws_queries.specs.Plain.{log_at, operator_at}
 use Rattle.laws_queries.specs.Rooms.{IsBounded}
 
 -- NOTHING IS TO BE DONE from the instant n to below b: no row leaves a window or enters it,

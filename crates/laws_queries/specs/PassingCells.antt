@@ -5,16 +5,18 @@ use Rattle.plan.specs.Nodes as plan
 use Rattle.reference.specs.Machine.{Machine, Registered}
 use Rattle.op_queue.specs.Logs.{Closed}
 use Rattle.to_stream.specs.Turns as root
-use Rattle.operators.specs.Inboxes.{IsInboxWithin, ReadsOn, entries_in, is_fed}
-use Rattle.operators.specs.Operators.{PlainOperator}
+use Rattle.operators.specs.Inboxes.{IsInboxWithin, ReadsOn, is_fed}
+use Rattle.operators.specs.Ready.{PlainOperator, entries_in}
 use Rattle.operators.specs.declared.inboxes.Inbox.{Inbox}
 use Rattle.operators.specs.declared.states.State.{State}
 use Rattle.operators.specs.declared.states.State.TheVariants as state
 use Rattle.laws_dataflow.specs.Nets.{cell_next, past}
 use Rattle.laws_dataflow.specs.Passes.{Clears}
-use Rattle.laws_dataflow.specs.Plans.{below_root, world_of}
+use Rattle.laws_dataflow.specs.Plans.{world_of}
+use Rattle.laws_dataflow.specs.Roots.{below_root}
 use Rattle.laws_queries.specs.Passing.{IsQuiet, passed_state}
-use Rattle.laws_queries.specs.Queries.{IsRunning, log_at, node_at, operator_at}
+use Rattle.laws_queries.specs.Queries.{IsRunning}
+use Rattle.laws_queries.specs.Plain.{log_at, node_at, operator_at}
 
 -- the instants at which the sides stand of an operator that stands at n
 abbrev pub left_at : State → ℕ → ℕ

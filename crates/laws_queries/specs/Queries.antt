@@ -1,14 +1,15 @@
 -- A running query: its operators, of which each stands for
 -- a cell of a net, and what it has given of its answers.
 use Rattle.std.specs.Prelude.{ℕ, ◌≡◌, ◌≢◌, ◌-◌, ◌<◌, ◌≤◌, ◌++◌, true, max, None, List, [], length}
-use Rattle.std.specs.Prelude.{map, get_or, slice_get}
+use Rattle.std.specs.Prelude.{map, slice_get}
 use Rattle.std.specs.List.{AllByRecursion}
 use Rattle.std.specs.Option.{option_map_or}
 use Rattle.values.specs.Row.{Row}
 use Rattle.values.specs.Window.{Element}
-use Rattle.values.specs.Resolved.{operator_of}
+use Rattle.values.specs.StreamOperators.{operator_of}
 use Rattle.column.specs.declared.batch.Side.{Side}
-use Rattle.op_queue.specs.Entries.{Entry, IsForward}
+use Rattle.op_queue.specs.Entries.{Entry}
+use Rattle.op_queue.specs.Forward.{IsForward}
 use Rattle.op_queue.specs.Items.{entries_of}
 use Rattle.op_queue.specs.Logs.{Closed}
 use Rattle.op_queue.specs.declared.item.Item.{Item}
@@ -17,68 +18,26 @@ use Rattle.turn.specs.Turns.{change_at}
 use Rattle.turn.specs.declared.kinds.Kind.TheVariants as kind
 use Rattle.turn.specs.declared.outcomes.Change.{Change}
 use Rattle.operators.specs.Inboxes.{IsInboxWithin, is_fed, queued}
-use Rattle.operators.specs.Operators.{Belongs, IsFed, IsFinished, PlainOperator, inbox_of, ready}
-use Rattle.operators.specs.Operators.{waiting}
+use Rattle.operators.specs.Operators.{Belongs, IsFed, IsFinished}
+use Rattle.operators.specs.Ready.{PlainOperator, inbox_of, ready, waiting}
 use Rattle.operators.specs.States.{near_of}
 use Rattle.operators.specs.declared.inboxes.Inbox.{Inbox}
 use Rattle.operators.specs.declared.inboxes.Inbox.TheVariants.{First, Between}
 use Rattle.operators.specs.declared.states.State.TheVariants as state
-use Rattle.physical_plans.specs.Beginnings.{nothing_waits}
 use Rattle.physical_plans.specs.Wiring.{wire_from, wires_of}
-use Rattle.physical_plans.specs.declared.wiring.Wire.{Wire}
 use Rattle.plan.specs.Nodes as plan
-use Rattle.reference.specs.Machine.{Machine, Place, Registered, Stream}
-use Rattle.stream_store.specs.Closing.{closed_of}
+use Rattle.reference.specs.Machine.{Machine, Registered, Stream}
 use Rattle.stream_store.specs.Stored.{IsByArrival}
 use Rattle.laws_dataflow.specs.Laws.{IsGood}
 use Rattle.laws_dataflow.specs.Laws as nets
 use Rattle.laws_dataflow.specs.Nets.{Cell}
-use Rattle.laws_dataflow.specs.Plans.{below_root, world_of}
+use Rattle.laws_dataflow.specs.Plans.{world_of}
+use Rattle.laws_dataflow.specs.Roots.{below_root}
 use Rattle.laws_queries.specs.Runs.{Runs, RunsRoot}
 use Rattle.laws_queries.specs.Widths.{AreEntries, IsRow, IsWide, width_at}
 use Rattle.laws_queries.specs.Counts.{AreFew, StaysWithin, count, most_rows}
 use Rattle.laws_queries.specs.Steps.{MayTake}
-
--- THE OPERATORS by their numbers
-
-abbrev pub node_at : Registered → ℕ → plan.Node
-node_at q k = get_or q.nodes k (plan.Window 0)
-
-abbrev pub no_operator : PlainOperator
-no_operator = record {
-  kind = kind.ToStream;
-  state = state.Nothing;
-  left = nothing_waits;
-  right = nothing_waits;
-}
-
-abbrev pub operator_at : List PlainOperator → ℕ → PlainOperator
-operator_at os k = get_or os k no_operator
-
--- THE LOGS that they read
-abbrev pub no_log : Closed
-no_log = record { width = 0; elements = []; until = 0 }
-
--- what the stream of a number has closed
-abbrev pub stream_log : List Stream → ℕ → Closed
-stream_log streams n = option_map_or closed_of (slice_get streams n) no_log
-
--- the place of a source
-abbrev pub place_of : Registered → ℕ → Place
-place_of q s = get_or q.places s (record { stream = 0; arrivals = 0 })
-
--- the number of the stream that a window reads; other operators read none, and any will do
-abbrev pub source_of : Registered → plan.Node → ℕ
-source_of q (plan.Window s) = (place_of q s).stream
-source_of q (plan.Select i cs) = (place_of q 0).stream
-source_of q (plan.Join i j ks) = (place_of q 0).stream
-source_of q (plan.Project i columns) = (place_of q 0).stream
-source_of q (plan.Group i by items) = (place_of q 0).stream
-source_of q (plan.Distinct i) = (place_of q 0).stream
-source_of q (plan.ToStream i op) = (place_of q 0).stream
-
-abbrev pub log_at : Machine → Registered → ℕ → Closed
-log_at m q k = stream_log m.streams (source_of q (node_at q k))
+use Rattle.laws_queries.specs.Plain.{PlainQuery, log_at, node_at, operator_at, place_of, source_of}
 
 -- WHAT WAITS FOR THEM
 -- a first queue, of a query of this place and first instant:
@@ -131,14 +90,6 @@ pub record IsRunning (vs ws : List ℕ) (m : Machine) (q : Registered) (os : Lis
   pub good : IsGood m q cells held queue given
   pub inner : (k : ℕ) → k < below_root q.nodes → RunsAt ws m q k (operator_at os k) (cells k)
   pub last : RunsAtRoot ws m q (operator_at os (below_root q.nodes)) held queue good.root.whole
-
--- as a plain value: its operators, by the number of each where its
--- outputs go and which stream it reads, and the answers that wait
-pub record PlainQuery : Type 0 where
-  pub operators : List PlainOperator
-  pub wires : List Wire
-  pub sources : List ℕ
-  pub answers : List (ℕ × Row)
 
 -- it runs; of what it has given these were taken, and the others wait
 pub record IsPlainQuery (vs ws : List ℕ) (m : Machine) (q : Registered) (taken : List (ℕ × Row))

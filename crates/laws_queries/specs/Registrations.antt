@@ -11,7 +11,7 @@ use Rattle.values.specs.Resolved.{window_of}
 use Rattle.values.specs.Window as shown
 use Rattle.values.specs.declared.resolved.Window.{Window}
 use Rattle.row_nodes.specs.Steps.{truths_needed}
-use Rattle.operators.specs.Operators.{PlainOperator}
+use Rattle.operators.specs.Ready.{PlainOperator}
 use Rattle.plan.specs.Views.{nodes_of}
 use Rattle.plan.specs.declared.node.Node.{Node}
 use Rattle.physical_plans.specs.Beginnings.{AreMade, HaveNarrowRows, IsMakeable}
@@ -35,11 +35,9 @@ abbrev pub IsNarrowShape : Shape → Type 0
 IsNarrowShape (Listed columns) = length columns ≤ MAX_COLUMNS
 IsNarrowShape (Grouped by items) = (length by ≤ MAX_COLUMNS) × (length items ≤ MAX_COLUMNS)
 
--- a window moves at the multiples of one or more, and lists of Partition By are not too long
+-- lists of Partition By are not too long
 abbrev pub IsTextWindow : shown.Window → Type 0
-IsTextWindow (shown.Range n) = Unit {0}
-IsTextWindow (shown.RangeSlide n l) = 0 < l
-IsTextWindow shown.Unbounded = Unit {0}
+IsTextWindow (shown.Instants r) = Unit {0}
 IsTextWindow (shown.LastRows columns n) = length columns ≤ MAX_COLUMNS
 
 -- the steps of the condition have room

@@ -7,7 +7,8 @@ use Rattle.reference.specs.Commands.{rows_of_each}
 use Rattle.reference.specs.Machine.{Machine, Registered, Stream}
 use Rattle.laws_dataflow.specs.Nets.{Cell, input_of, left_of, right_of}
 use Rattle.laws_dataflow.specs.Operators.{net_of}
-use Rattle.laws_dataflow.specs.Plans.{IsPlanOf, arrivals_at, below_root, value_of, world_of}
+use Rattle.laws_dataflow.specs.Plans.{IsPlanOf, arrivals_at, value_of, world_of}
+use Rattle.laws_dataflow.specs.Roots.{below_root}
 use Rattle.laws_queries.specs.Counts.{HasRoom, most_rows, source_rows}
 use Rattle.laws_queries.specs.Roots.{HasRootRoom}
 

@@ -8,7 +8,8 @@ use Rattle.op_queue.specs.Logs.{Closed}
 use Rattle.op_queue.specs.declared.item.Item.{Item}
 use Rattle.to_stream.specs.Turns.{State, next}
 use Rattle.turn.specs.Turns.{Answered, change_at}
-use Rattle.operators.specs.Operators.{PlainOperator, IsFinished}
+use Rattle.operators.specs.Operators.{IsFinished}
+use Rattle.operators.specs.Ready.{PlainOperator}
 use Rattle.operators.specs.States.{near_of}
 use Rattle.laws_dataflow.specs.Nets.{Input}
 use Rattle.laws_dataflow.specs.Queries.{GoodRoot}

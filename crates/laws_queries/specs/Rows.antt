@@ -2,15 +2,16 @@
 -- times: their order of arrival, and the range of their values.
 use Rattle.std.specs.Prelude.{ℕ, ◌≡◌, ◌<◌, None, List}
 use Rattle.std.specs.List.{All, AllByRecursion}
-use Rattle.values.specs.Value.{IsAnswerValue}
+use Rattle.values.specs.Ranges.{IsAnswerValue}
 use Rattle.plan.specs.Nodes as plan
 use Rattle.reference.specs.Commands.{Command, after, first_fault}
 use Rattle.reference.specs.Machine.{Machine, Registered, Stream, empty}
-use Rattle.laws_dataflow.specs.Plans.{below_root}
+use Rattle.laws_dataflow.specs.Roots.{below_root}
 use Rattle.laws_queries.specs.Widths.{width_at}
 use Rattle.laws_queries.specs.Machines.{IsMachine, columns_of}
 use Rattle.stream_store.specs.Stored.{IsByArrival}
-use Rattle.laws_queries.specs.Queries.{ReadsRows, node_at, place_of}
+use Rattle.laws_queries.specs.Queries.{ReadsRows}
+use Rattle.laws_queries.specs.Plain.{node_at, place_of}
 
 -- the elements came one after the other, with numbers below
 -- the next one, and their values are of the answers' range

@@ -18,14 +18,16 @@ use Rattle.group.specs.Groups.{once_each}
 use Rattle.group.specs.Turns.{GroupState, cell_of}
 use Rattle.group.specs.Laws as groups
 use Rattle.join.specs.Pairs as pairs
-use Rattle.join.specs.Turns.{JoinState}
+use Rattle.join.specs.States.{JoinState}
 use Rattle.join.specs.Laws as joins
 use Rattle.to_stream.specs.Turns as root
 use Rattle.turn.specs.declared.kinds.Kind.TheVariants as kind
-use Rattle.operators.specs.Operators.{Belongs, PlainOperator, waiting}
+use Rattle.operators.specs.Operators.{Belongs}
+use Rattle.operators.specs.Ready.{PlainOperator, waiting}
 use Rattle.operators.specs.declared.states.State.{State}
 use Rattle.operators.specs.declared.states.State.TheVariants as state
 use Rattle.plan.specs.Nodes as plan
+use Rattle.plan.specs.Values as valued
 use Rattle.plan.specs.Views.{columns_at}
 use Rattle.laws_dataflow.specs.Nets.{World, Cell, at_window, at_unary, at_join}
 use Rattle.laws_dataflow.specs.Operators.{Tell}
@@ -113,7 +115,7 @@ pub record RunsJoin (keys : List plan.Key) (o : PlainOperator) (log : Closed)
   pub held : JoinState
   pub kind : o.kind ≡ kind.Join
   pub state : o.state ≡ state.Join held
-  pub meets : (ls rs : List Row) → pairs.joined held.keys ls rs ≡ plan.joined keys ls rs
+  pub meets : (ls rs : List Row) → pairs.joined held.keys ls rs ≡ valued.joined keys ls rs
   pub stands : joins.Stands held l m
   pub left_ticked : held.left.ticked ≡ a
   pub right_ticked : held.right.ticked ≡ b

@@ -7,8 +7,9 @@ use Rattle.op_queue.specs.Items.{entries_of}
 use Rattle.op_queue.specs.Logs.{Closed}
 use Rattle.op_queue.specs.declared.item.Item.{Item}
 use Rattle.turn.specs.Turns.{Outs, Put, change_at, outs_at}
-use Rattle.operators.specs.Operators.{PlainOperator, HasNamedColumns, IsFinished, waiting}
-use Rattle.operators.specs.States.{HasColumns, HasStood, Takes, near_of, usable}
+use Rattle.operators.specs.Operators.{HasNamedColumns, IsFinished}
+use Rattle.operators.specs.States.{HasColumns, HasStood, Takes, near_of}
+use Rattle.operators.specs.Ready.{PlainOperator, usable, waiting}
 use Rattle.plan.specs.Nodes as plan
 use Rattle.laws_dataflow.specs.Nets.{World, Cell, Input, GoodCell, Turn, cell_shown}
 use Rattle.laws_dataflow.specs.Operators.{node_of}

@@ -11,14 +11,16 @@ use Rattle.reference.specs.Commands.{register_tests}
 use Rattle.reference.specs.Machine.{Machine, Registered, Stream}
 use Rattle.reference.specs.Named.{name_of_registered}
 use Rattle.reference.proofs.NamedLemmas.{registered-place, registered_new}
-use Rattle.laws_queries.specs.Queries.{PlainQuery, node_at}
+use Rattle.laws_queries.specs.Plain.{PlainQuery, node_at}
 use Rattle.laws_queries.specs.Registrations.{HaveColumnNames}
 use Rattle.laws_engine.specs.Bounds.{HaveFewClosed}
 use Rattle.laws_engine.proofs.InstantLemmas.{registered_closed}
-use Rattle.run_queue.specs.Slots.{without_query}
+use Rattle.run_queue.specs.Changes.{without_query}
 use Rattle.run_queue.specs.declared.slots.Slot.{Slot}
 use Rattle.laws_engine.specs.Calls.{registered, with_query}
-use Rattle.laws_engine.specs.Engines.{GoodEngine, IsIn, Lease, PlainEngine, PlainRemains, Running, query_at, remains_at}
+use Rattle.laws_engine.specs.Engines.{Lease, PlainEngine, PlainRemains, Running, query_at}
+use Rattle.laws_engine.specs.Engines.{remains_at}
+use Rattle.laws_engine.specs.Good.{GoodEngine, IsIn}
 use Rattle.laws_engine.proofs.AskLemmas.{may_ask}
 use Rattle.laws_engine.proofs.PromiseLemmas.{is_slot}
 use Rattle.laws_engine.proofs.RegisteredLemmas.{more_here, remains_before, remains_more}
@@ -100,7 +102,7 @@ abbrev closed_in : PlainEngine → Type 0
 closed_in e = HaveFewClosed e.machine
 
 -- where nothing changed
-pub sound_still : (s t : EngineState) → t.streams ≡ s.streams → t.undropped ≡ s.undropped → t.registered.items ≡ s.registered.items → t.remains.items ≡ s.remains.items → t.leases.items ≡ s.leases.items → t.next ≡ s.next → t.slots ≡ s.slots → t.readers.items ≡ s.readers.items → IsSound s → IsSound t
+pub sound_still : (s t : EngineState) → t.streams ≡ s.streams → t.undropped ≡ s.undropped → t.registered.items ≡ s.registered.items → t.remains.items ≡ s.remains.items → t.leases.items ≡ s.leases.items → t.next ≡ s.next → t.slots ≡ s.slots → t.readers ≡ s.readers → IsSound s → IsSound t
 sound_still s t streams undropped queries remains leases next slots readers h =
     let same : engine_in t ≡ engine_in s = rw (streams, queries, remains, leases, next, slots) refl in
     record {
@@ -117,7 +119,7 @@ sound_still s t streams undropped queries remains leases next slots readers h =
 
 -- where the query was added
 pub sound_with : (s t : EngineState) (q : Registered) (p : PlainQuery) → IsSound s → GoodEngine (registered (engine_in s) q p) → q.is_dropped ≡ false → q.earlier ≡ [] → engine_in t ≡ registered (engine_in s) q p → t.leases.items ≡ s.leases.items → t.next ≡ s.next
-    → t.undropped ≡ kept (s.undropped.names ++ Some q.name ∷ []) (s.undropped.limits ++ limits_in (length (engine_in s).machine.queries) q) → t.readers.items ≡ s.readers.items ++ windows_from q (length (engine_in s).machine.queries) 0 q.nodes → IsSound t
+    → t.undropped ≡ kept (s.undropped.names ++ Some q.name ∷ []) (s.undropped.limits ++ limits_in (length (engine_in s).machine.queries) q) → t.readers ≡ s.readers ++ windows_from q (length (engine_in s).machine.queries) 0 q.nodes → IsSound t
 sound_with s t q p h good live none_earlier same leases next undropped readers =
     let e = engine_in s in
     record {

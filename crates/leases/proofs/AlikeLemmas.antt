@@ -4,7 +4,8 @@ use Rattle.std.specs.Prelude.{◌⊎◌}
 use Rattle.reference.specs.Alike.{Alike}
 use Rattle.reference.proofs.AlikeLemmas.{world_itself}
 use Rattle.laws_engine.specs.Engines.{world_of}
-use Rattle.laws_engine.specs.Openings.{IsUnbroken, forgotten}
+use Rattle.laws_engine.specs.Openings.{forgotten}
+use Rattle.laws_engine.specs.Unbroken.{IsUnbroken}
 use Rattle.laws_engine.proofs.AlikeLemmas.{forgotten_alike}
 use Rattle.leases.specs.Queues.{LeavesQueues}
 use Rattle.leases.specs.Shown.{engine_in, world_in}

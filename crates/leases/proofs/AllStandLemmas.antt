@@ -3,11 +3,12 @@ use Rattle.std.proofs.Common.{◌≡◌, ◌≢◌, ◌<◌, ◌≤◌, ◌+◌,
 use Rattle.std.specs.List.{AllByRecursion}
 use Rattle.column.specs.declared.batch.Side.{Side}
 use Rattle.reference.specs.Machine.{Registered}
-use Rattle.laws_queries.specs.Queries.{PlainQuery}
-use Rattle.run_queue.specs.Slots.{Stands, changed}
+use Rattle.laws_queries.specs.Plain.{PlainQuery}
+use Rattle.run_queue.specs.Changes.{Stands, changed}
 use Rattle.run_queue.specs.declared.slots.Slot.{Slot}
 use Rattle.run_queue.proofs.StandLemmas.{stands_on}
-use Rattle.laws_engine.specs.Engines.{GoodEngine, PlainEngine, Running, query_at, remains_at, slot_at}
+use Rattle.laws_engine.specs.Engines.{PlainEngine, Running, query_at, remains_at, slot_at}
+use Rattle.laws_engine.specs.Good.{GoodEngine}
 use Rattle.laws_engine.proofs.PromiseLemmas.{slot_is}
 use Rattle.leases.specs.Applied.{AllStand}
 use Rattle.leases.specs.Passing.{slots_below}

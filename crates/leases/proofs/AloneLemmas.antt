@@ -9,22 +9,25 @@ use Rattle.column.specs.declared.batch.Side.{Side}
 use Rattle.op_queue.specs.Items.{entries_of}
 use Rattle.op_queue.specs.declared.item.Item.{Item}
 use Rattle.operators.specs.Inboxes.{cut_of}
-use Rattle.operators.specs.Operators.{inbox_of, ready}
+use Rattle.operators.specs.Ready.{inbox_of, ready}
 use Rattle.operators.specs.States.{near_of}
 use Rattle.reference.specs.Machine.{Registered, Stream}
-use Rattle.laws_queries.specs.Queries.{PlainQuery, log_at, operator_at}
+use Rattle.laws_queries.specs.Plain.{PlainQuery, log_at, operator_at}
 use Rattle.laws_queries.specs.Steps.{IsFirst}
 use Rattle.query_runtime.specs.Passing.{AreQuiet, HavePassed}
 use Rattle.query_runtime.specs.Runs.{CanRun, HasRun}
 use Rattle.query_runtime.specs.Turns.{HasOperator, log_of}
 use Rattle.laws_queries.specs.Machines.{widths_of}
 use Rattle.envelope.specs.Fraction.{Fraction}
-use Rattle.run_queue.specs.Slots.{slot, with_next}
+use Rattle.run_queue.specs.Slots.{slot}
+use Rattle.run_queue.specs.Changes.{with_next}
 use Rattle.run_queue.specs.declared.slots.Slot.{Slot}
 use Rattle.laws_engine.specs.Asks.{IsOperator}
 use Rattle.laws_engine.specs.Bounds.{HaveFewClosed}
 use Rattle.laws_engine.specs.Calls.{IsOf, answered, finished, leased, others}
-use Rattle.laws_engine.specs.Engines.{AreRemains, Dropped, Goes, GoodEngine, HasSlots, IsIn, Lease, PlainEngine, PlainRemains, Running, is_of, query_at, remains_at, slot_of}
+use Rattle.laws_engine.specs.Engines.{Dropped, Lease, PlainEngine, PlainRemains, Running, is_of}
+use Rattle.laws_engine.specs.Engines.{query_at, remains_at}
+use Rattle.laws_engine.specs.Good.{AreRemains, Goes, GoodEngine, HasSlots, IsIn, slot_of}
 use Rattle.laws_engine.specs.Histories.{ComesBack, Finishes, IsCallStep}
 use Rattle.laws_engine.specs.Orders.{IsReady}
 use Rattle.laws_engine.specs.Passing.{HasPassed}

@@ -13,14 +13,17 @@ use Rattle.reference.specs.declared.fault.Fault.{Fault}
 use Rattle.reference.specs.declared.fault.Fault.TheVariants.{Query, BadName, NameTaken, BadColumns, TooMany, UnknownStream, UnknownQuery, BadWidth, ValueRange, InstantRange, Late, Backward, Leap, StreamFull, BadLimit, Broken, UnknownLease, Stranger, TooManyLeases, HistoryFull, OutOfMemory, Foreign}
 use Rattle.reference.specs.World.{Does, Looks, MayLackMemory, Step, World, heartbeat_step, unless}
 use Rattle.reference.proofs.StepLemmas.{lacked}
-use Rattle.stream_store.specs.Closing.{closing_at, closing_in, unless_faulty}
+use Rattle.stream_store.specs.Gains.{closing_at, closing_in, unless_faulty}
 use Rattle.laws_queries.proofs.NewestLemmas.{registrations_stand}
-use Rattle.laws_queries.specs.Queries.{PlainQuery}
-use Rattle.run_queue.specs.Slots.{slot, with_next}
+use Rattle.laws_queries.specs.Plain.{PlainQuery}
+use Rattle.run_queue.specs.Slots.{slot}
+use Rattle.run_queue.specs.Changes.{with_next}
 use Rattle.run_queue.specs.declared.slots.Slot.{Slot}
 use Rattle.laws_engine.specs.Asks.{IsOperator}
 use Rattle.laws_engine.specs.Calls.{IsHeartbeat, closed_over, heartbeat_taken}
-use Rattle.laws_engine.specs.Engines.{GoodEngine, HasSlots, IsIn, PlainEngine, Running, next_at, query_at, remains_at, slope_at, slot_at, slot_of}
+use Rattle.laws_engine.specs.Engines.{PlainEngine, Running, next_at, query_at, remains_at, slope_at}
+use Rattle.laws_engine.specs.Engines.{slot_at}
+use Rattle.laws_engine.specs.Good.{GoodEngine, HasSlots, IsIn, slot_of}
 use Rattle.laws_engine.specs.Resting.{IsResting}
 use Rattle.laws_engine.proofs.InstantLemmas.{few_closed_stand}
 use Rattle.laws_engine.proofs.AskLemmas.{may_ask}
@@ -33,6 +36,7 @@ use Rattle.laws_engine.proofs.TableLemmas.{updated, updated_here, updated_number
 use Rattle.laws_engine.proofs.TakeLemmas.{equal_slots}
 use Rattle.plan.proofs.Lists.{by_test}
 use Rattle.leases.specs.Asked.{HasOperatorAt}
+use Rattle.leases.specs.ByStream.{over_stream}
 use Rattle.leases.specs.Readers.{next_for, next_in, reader, idle_slot, idle_slots, is_idle_at, with_update, with_updates, with_slots}
 use Rattle.leases.specs.Shown.{engine_in, world_in}
 use Rattle.leases.specs.Sound.{IsSound}
@@ -73,23 +77,27 @@ resting_is e n k x i = by_test (is_idle_at e n k)
         let at = numbered e n k x here in
         ap (λ z. slot_of e z x.operator) at.0 ∙ ap (slot_of e n) at.1 ∙ here
 
-slots_are : (e : PlainEngine) (s : ℕ) (rs : List WindowReader) (x : Slot) → IsIn (idle_slots e s rs) x → slot_of e x.query x.operator ≡ Some x
-slots_are e s [] x i = absurd i
-slots_are e s (r ∷ rs) x i = ⊎_elim
-    (λ j. by_test (r.stream == s)
-    (λ t. let k : IsIn (idle_slot e r.query r.operator) x = rw t at j in resting_is e r.query r.operator x k)
-    (λ f. let k : IsIn [] x = rw f at j in absurd k))
-    (λ j. slots_are e s rs x j)
-    (in_either (cond (r.stream == s) (idle_slot e r.query r.operator) []) (idle_slots e s rs) x i)
+slots_are : (e : PlainEngine) (rs : List WindowReader) (x : Slot) → IsIn (idle_slots e rs) x → slot_of e x.query x.operator ≡ Some x
+slots_are e [] x i = absurd i
+slots_are e (r ∷ rs) x i = ⊎_elim (λ j. resting_is e r.query r.operator x j) (λ j. slots_are e rs x j) (in_either (idle_slot e r.query r.operator) (idle_slots e rs) x i)
 
 -- that of a window that rests is among them
-slot_comes : (e : PlainEngine) (s n k : ℕ) (rs : List WindowReader) (x : Slot) → IsIn rs (reader s n k) → is_idle_at e n k ≡ true → slot_of e n k ≡ Some x → IsIn (idle_slots e s rs) x
+slot_comes : (e : PlainEngine) (s n k : ℕ) (rs : List WindowReader) (x : Slot) → IsIn rs (reader s n k) → is_idle_at e n k ≡ true → slot_of e n k ≡ Some x → IsIn (idle_slots e rs) x
 slot_comes e s n k [] x i r is = absurd i
 slot_comes e s n k (y ∷ rs) x (inl same) r is =
-    let here : IsIn (cond (s == s) (idle_slot e n k) []) x = let t : (s == s) ≡ true = eq-eqb s s refl in rw (t, r, is) (inl refl) in
-    in_left (cond (y.stream == s) (idle_slot e y.query y.operator) []) (idle_slots e s rs) x
-    (subst (λ (z : WindowReader). IsIn (cond (z.stream == s) (idle_slot e z.query z.operator) []) x) (sym same) here)
-slot_comes e s n k (y ∷ rs) x (inr i) r is = in_right (cond (y.stream == s) (idle_slot e y.query y.operator) []) (idle_slots e s rs) x (slot_comes e s n k rs x i r is)
+    let here : IsIn (idle_slot e n k) x = rw (r, is) (inl refl) in
+    in_left (idle_slot e y.query y.operator) (idle_slots e rs) x (subst (λ (z : WindowReader). IsIn (idle_slot e z.query z.operator) x) (sym same) here)
+slot_comes e s n k (y ∷ rs) x (inr i) r is = in_right (idle_slot e y.query y.operator) (idle_slots e rs) x (slot_comes e s n k rs x i r is)
+
+-- a window over the stream is among those over it
+is_over : (s n k : ℕ) (rs : List WindowReader) → IsIn rs (reader s n k) → IsIn (over_stream s rs) (reader s n k)
+is_over s n k [] i = absurd i
+is_over s n k (y ∷ rs) (inl same) =
+    let own : (y.stream == s) ≡ true = ap (λ (z : WindowReader). z.stream == s) same ∙ eq-eqb s s refl in
+    rw own (inl same)
+is_over s n k (y ∷ rs) (inr i) = by_test (y.stream == s)
+    (λ t. rw t (inr (is_over s n k rs i)))
+    (λ f. rw f (is_over s n k rs i))
 
 -- WHAT IS TOLD: of each operator the slot is the one before or the one after, and it is the one before of those alone that are told still
 abbrev HasOne : List Slot → ℕ → ℕ → Type 0
@@ -153,16 +161,16 @@ module _ (e : PlainEngine) (s : ℕ) (at : ℤ) where
   each_told (x ∷ todo) slots are p = each_told todo (with_update (closed_over e s at) x slots) (λ y i. are y (inr i)) (one_told x todo slots (are x (inl refl)) p)
 
 module _ (e : PlainEngine) (s : ℕ) (at : ℤ) (g : GoodEngine e) (h : IsHeartbeat e s at) (rs : List WindowReader) where
-  pub all_asked : AllByRecursion (λ slot. HasOperatorAt (closed_over e s at) slot.query slot.operator) (idle_slots e s rs)
-  all_asked = all_of (λ slot. HasOperatorAt (closed_over e s at) slot.query slot.operator) (idle_slots e s rs)
+  pub all_asked : AllByRecursion (λ slot. HasOperatorAt (closed_over e s at) slot.query slot.operator) (idle_slots e rs)
+  all_asked = all_of (λ slot. HasOperatorAt (closed_over e s at) slot.query slot.operator) (idle_slots e rs)
       (λ x i.
-      let o = is_slot e x.query x.operator x (slots_are e s rs x i) in
+      let o = is_slot e x.query x.operator x (slots_are e rs x i) in
       let is : IsOperator (heartbeat_taken e s at) x.query x.operator o.query o.plain = record { registered = o.registered; running = o.running; within = o.within } in
       let may = may_ask (heartbeat_taken e s at) (heartbeat_good e s at g h) in
       (o.query, (o.plain, record { registered = o.registered; running = o.running; within = o.within; operator = may.operators x.query x.operator o.query o.plain is; log = may.logs x.query x.operator o.query o.plain is })))
 
   module _ (lists : (n k : ℕ) → IsResting e s n k → IsIn rs (reader s n k)) where
-    waking : (n k : ℕ) → IsResting e s n k → HasOne (idle_slots e s rs) n k
+    waking : (n k : ℕ) → IsResting e s n k → HasOne (idle_slots e rs) n k
     waking n k is =
         let here : slot_of e n k ≡ Some (slot_at e n is.query is.plain k) = slot_is e n k is.query is.plain is.registered is.running is.within in
         let idle : is_idle_at e n k ≡ true = resting_rests e g s n k is in (
@@ -170,34 +178,34 @@ module _ (e : PlainEngine) (s : ℕ) (at : ℤ) (g : GoodEngine e) (h : IsHeartb
           (slot_comes e s n k rs (slot_at e n is.query is.plain k) (lists n k is) idle here, (refl, refl)),
         )
 
-    pub all_told : with_updates (closed_over e s at) (idle_slots e s rs) e.slots ≡ (heartbeat_taken e s at).slots
+    pub all_told : with_updates (closed_over e s at) (idle_slots e rs) e.slots ≡ (heartbeat_taken e s at).slots
     all_told =
-        let start : ArePartly e (closed_over e s at) (idle_slots e s rs) e.slots = record {
+        let start : ArePartly e (closed_over e s at) (idle_slots e rs) e.slots = record {
           table = slot_of e;
           named = numbered e;
           has = g.slots;
           each = λ n k. ⊎_elim (λ is. inr (refl, waking n k is)) (λ same. inl (sym same)) (beat_or_rest e s at g h n k);
         } in
-        same_slots (slot_of (closed_over e s at)) (with_updates (closed_over e s at) (idle_slots e s rs) e.slots) (heartbeat_taken e s at).slots
-        (each_told e s at (idle_slots e s rs) e.slots (λ x i. slots_are e s rs x i) start) (heartbeat_good e s at g h).slots
+        same_slots (slot_of (closed_over e s at)) (with_updates (closed_over e s at) (idle_slots e rs) e.slots) (heartbeat_taken e s at).slots
+        (each_told e s at (idle_slots e rs) e.slots (λ x i. slots_are e rs x i) start) (heartbeat_good e s at g h).slots
 
 -- THE CALL: rows that the stream's heartbeat closes, the readers' slots, the streams closed, the slots told
 module _ (s : EngineState) (streams : List Stream) (n : ℕ) (at : ℤ) (h : IsSound s) (beats : IsHeartbeat (engine_in s) n at) (closes : streams ≡ change n (closed_to at) s.streams) where
-  pub readers_asked : (slots : List Slot) → slots ≡ idle_slots (engine_in s) n s.readers.items → AllByRecursion (λ slot. HasOperatorAt (engine_in (at_streams s streams)) slot.query slot.operator) slots
+  pub readers_asked : (slots : List Slot) → slots ≡ idle_slots (engine_in s) (over_stream n s.readers) → AllByRecursion (λ slot. HasOperatorAt (engine_in (at_streams s streams)) slot.query slot.operator) slots
   readers_asked slots are =
       subst (λ z. AllByRecursion (λ slot. HasOperatorAt (engine_in (at_streams s z)) slot.query slot.operator) slots) (sym closes)
-      (subst (AllByRecursion (λ slot. HasOperatorAt (closed_over (engine_in s) n at) slot.query slot.operator)) (sym are) (all_asked (engine_in s) n at h.good beats s.readers.items))
+      (subst (AllByRecursion (λ slot. HasOperatorAt (closed_over (engine_in s) n at) slot.query slot.operator)) (sym are) (all_asked (engine_in s) n at h.good beats (over_stream n s.readers)))
 
-  module _ (slots : List Slot) (are : slots ≡ idle_slots (engine_in s) n s.readers.items) (s2 : EngineState) (tells : s2 ≡ with_slots (at_streams s streams) (with_updates (engine_in (at_streams s streams)) slots s.slots)) where
-    all_listed : (m k : ℕ) → IsResting (engine_in s) n m k → IsIn s.readers.items (reader n m k)
-    all_listed m k is = subst (λ rs. IsIn rs (reader n m k)) (sym h.readers) (resting_listed (engine_in s) n m k is)
+  module _ (slots : List Slot) (are : slots ≡ idle_slots (engine_in s) (over_stream n s.readers)) (s2 : EngineState) (tells : s2 ≡ with_slots (at_streams s streams) (with_updates (engine_in (at_streams s streams)) slots s.slots)) where
+    all_listed : (m k : ℕ) → IsResting (engine_in s) n m k → IsIn (over_stream n s.readers) (reader n m k)
+    all_listed m k is = is_over n m k s.readers (subst (λ rs. IsIn rs (reader n m k)) (sym h.readers) (resting_listed (engine_in s) n m k is))
 
     state_is : s2 ≡ with_slots (at_streams s (change n (closed_to at) s.streams)) (heartbeat_taken (engine_in s) n at).slots
     state_is =
         tells
         ∙ ap (λ z. with_slots (at_streams s z) (with_updates (engine_in (at_streams s z)) slots s.slots)) closes
         ∙ ap (λ z. with_slots (at_streams s (change n (closed_to at) s.streams)) (with_updates (closed_over (engine_in s) n at) z s.slots)) are
-        ∙ ap (with_slots (at_streams s (change n (closed_to at) s.streams))) (all_told (engine_in s) n at h.good beats s.readers.items all_listed)
+        ∙ ap (with_slots (at_streams s (change n (closed_to at) s.streams))) (all_told (engine_in s) n at h.good beats (over_stream n s.readers) all_listed)
 
     pub beats_engine : engine_in s2 ≡ heartbeat_taken (engine_in s) n at
     beats_engine = ap engine_in state_is

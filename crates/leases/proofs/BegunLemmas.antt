@@ -3,7 +3,7 @@ use Rattle.std.proofs.Common.{◌≡◌, ◌∙◌, ℕ, ℤ, false, Option, Lis
 use Rattle.std.specs.Prelude.{IfOk, OnOk}
 use Rattle.values.specs.Resolved.{resolved_of}
 use Rattle.cql_reader.specs.Query as syntax
-use Rattle.cql_reader.specs.Reading.{reading}
+use Rattle.cql_reader.specs.Judging.{reading}
 use Rattle.names.specs.Resolved.{widths}
 use Rattle.plan.specs.Views.{nodes_of}
 use Rattle.plan.specs.declared.operators.Plan.{Plan}
@@ -12,7 +12,7 @@ use Rattle.reference.specs.Finds.{Finds}
 use Rattle.reference.specs.Machine as machine
 use Rattle.reference.specs.Machine.{Machine, Registered, first_for}
 use Rattle.reference.specs.declared.fault.Fault.{Fault}
-use Rattle.laws_queries.specs.Queries.{PlainQuery}
+use Rattle.laws_queries.specs.Plain.{PlainQuery}
 use Rattle.laws_queries.specs.Registrations.{lengths_of}
 use Rattle.query_runtime.specs.Turns.{IsBeginning}
 use Rattle.laws_engine.specs.Accepted.{IsBegun, IsPlanOfText, newest}

@@ -13,7 +13,9 @@ use Rattle.run_queue.specs.Slots as slots
 use Rattle.names.specs.Faults as faults
 use Rattle.reference.specs.declared.limits.TheConstants.{MAX_TURN}
 use Rattle.turn.specs.declared.turns.Turn.{Turn}
-use Rattle.laws_engine.specs.Engines.{Broken, Dropped, GoodEngine, Lease, PlainEngine, PlainRemains, Running, remains_at, world_of}
+use Rattle.laws_engine.specs.Engines.{Broken, Dropped, Lease, PlainEngine, PlainRemains, Running}
+use Rattle.laws_engine.specs.Engines.{remains_at, world_of}
+use Rattle.laws_engine.specs.Good.{GoodEngine}
 use Rattle.laws_engine.specs.Histories.{Finishes}
 use Rattle.laws_engine.specs.Orders.{SameKind, SameKinds}
 use Rattle.laws_engine.proofs.HistoryLemmas.{step_good}

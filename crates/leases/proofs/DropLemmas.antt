@@ -11,10 +11,12 @@ use Rattle.reference.specs.Machine.{Machine, Registered, Stream, unless_dropped}
 use Rattle.reference.specs.Named.{name_of_registered}
 use Rattle.reference.specs.World.{Step, World, drop_step, unless}
 use Rattle.reference.specs.declared.fault.Fault.{Fault}
-use Rattle.run_queue.specs.Slots.{without_query}
+use Rattle.run_queue.specs.Changes.{without_query}
 use Rattle.run_queue.specs.declared.slots.Slot.{Slot}
 use Rattle.laws_engine.specs.Calls.{dropped, of_others}
-use Rattle.laws_engine.specs.Engines.{Dropped, GoodEngine, IsIn, Lease, PlainEngine, PlainRemains, answers_in, upto_by, world_of}
+use Rattle.laws_engine.specs.Engines.{Dropped, Lease, PlainEngine, PlainRemains, answers_in}
+use Rattle.laws_engine.specs.Engines.{upto_by, world_of}
+use Rattle.laws_engine.specs.Good.{GoodEngine, IsIn}
 use Rattle.laws_engine.proofs.SlotLemmas.{in_filter}
 use Rattle.laws_engine.proofs.UptoLemmas.{upto_dropped}
 use Rattle.leases.specs.Sound.{is_gone}

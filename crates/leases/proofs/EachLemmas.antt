@@ -1,8 +1,9 @@
 -- Slots that are told one after the other, over an engine whose operators take other things next.
 use Rattle.std.proofs.Common.{◌≡◌, ◌≢◌, ℕ, inl, inr, ◌⊎◌, ⊎_elim, Option, Some, List, [], ◌∷◌, refl, sym, ap, ◌∙◌}
-use Rattle.run_queue.specs.Slots.{with_next}
+use Rattle.run_queue.specs.Changes.{with_next}
 use Rattle.run_queue.specs.declared.slots.Slot.{Slot}
-use Rattle.laws_engine.specs.Engines.{HasSlots, IsIn, PlainEngine, slot_of}
+use Rattle.laws_engine.specs.Engines.{PlainEngine}
+use Rattle.laws_engine.specs.Good.{HasSlots, IsIn, slot_of}
 use Rattle.laws_engine.proofs.SlotLemmas.{AreNumbered, changed_slots, numbers, told_again}
 use Rattle.laws_engine.proofs.TableLemmas.{updated, updated_here, updated_numbered, updated_there}
 use Rattle.laws_engine.proofs.TakeLemmas.{equal_slots}

@@ -4,15 +4,16 @@ use Rattle.std.specs.Option.{option_map}
 use Rattle.values.specs.Row.{Row}
 use Rattle.column.specs.declared.batch.Side.{Side}
 use Rattle.column.specs.declared.batch.Side.TheVariants.{Left, Right}
-use Rattle.op_queue.specs.Entries.{Entry, RowAt, TickAt}
-use Rattle.op_queue.specs.Items.{entries_of, first_instant, front_of, item_instant}
+use Rattle.op_queue.specs.Entries.{Entry, RowAt, TickAt, front_of}
+use Rattle.op_queue.specs.Items.{entries_of, first_instant, item_instant}
 use Rattle.op_queue.specs.Logs.{Closed}
 use Rattle.op_queue.specs.declared.item.Item.{Item}
 use Rattle.op_queue.specs.declared.item.Item.TheVariants.{Rows, Tick}
 use Rattle.windows.proofs.OutLemmas.{out_rows, out_tick}
-use Rattle.operators.specs.Inboxes.{entries_in, is_fed, queued}
-use Rattle.operators.specs.Operators.{IsFed, PlainOperator, first_ready, front_instant, inbox_of, ready, ready_at, waiting}
-use Rattle.operators.specs.States.{near_of, usable}
+use Rattle.operators.specs.Inboxes.{is_fed, queued}
+use Rattle.operators.specs.Operators.{IsFed}
+use Rattle.operators.specs.States.{near_of}
+use Rattle.operators.specs.Ready.{PlainOperator, entries_in, first_ready, front_instant, inbox_of, ready, ready_at, usable, waiting}
 use Rattle.operators.specs.declared.inboxes.Inbox.{Inbox}
 use Rattle.operators.specs.declared.inboxes.Inbox.TheVariants.{First, Between}
 use Rattle.operators.specs.declared.states.State.{State}

@@ -3,11 +3,12 @@ use Rattle.std.proofs.Common.{◌≡◌, ◌==◌, ◌+◌, ◌<◌, ◌≤◌, 
 use Rattle.turn.specs.Finished.{IsDone}
 use Rattle.turn.specs.declared.parts.Parts.{Parts}
 use Rattle.reference.specs.Machine.{Registered}
-use Rattle.laws_queries.specs.Queries.{PlainQuery}
+use Rattle.laws_queries.specs.Plain.{PlainQuery}
 use Rattle.query_runtime.specs.Turns.{wire_at}
 use Rattle.run_queue.specs.declared.slots.Slot.{Slot}
 use Rattle.laws_engine.specs.Calls.{answered, given_back, others}
-use Rattle.laws_engine.specs.Engines.{GoodEngine, Lease, PlainEngine, Running, query_at, remains_at, slot_at}
+use Rattle.laws_engine.specs.Engines.{Lease, PlainEngine, Running, query_at, remains_at, slot_at}
+use Rattle.laws_engine.specs.Good.{GoodEngine}
 use Rattle.laws_engine.specs.Histories.{ComesBack}
 use Rattle.laws_engine.proofs.BackLemmas.{same_plain}
 use Rattle.leases.specs.Applied.{BothStand, Forgets, GivesNothing, HasApplied, HasEnded, HasTaken, HasTakenIn, HasWiredOperators, IsAbove, IsBroken, IsOutAs, IsOutAsIn, IsOutIn, IsUpdated, MayApplyIn, MayTell, with_remains, without_turn}

@@ -8,15 +8,17 @@ use Rattle.op_queue.specs.Entries.{Entry}
 use Rattle.turn.specs.Finished.{IsDone}
 use Rattle.turn.specs.Turns.{Answered, change_at, outs_at, outs_in}
 use Rattle.turn.specs.declared.parts.Parts.{Parts}
-use Rattle.operators.specs.Operators.{IsFed, IsFinished, PlainOperator}
+use Rattle.operators.specs.Operators.{IsFed, IsFinished}
+use Rattle.operators.specs.Ready.{PlainOperator}
 use Rattle.operators.specs.States.{near_of}
 use Rattle.physical_plans.specs.Wiring.{wire_from}
 use Rattle.physical_plans.specs.declared.wiring.Wire.{Wire}
 use Rattle.reference.specs.Machine.{Registered}
-use Rattle.laws_dataflow.specs.Plans.{below_root}
+use Rattle.laws_dataflow.specs.Roots.{below_root}
 use Rattle.laws_queries.specs.Laws.{RootsRun, TurnsRun}
 use Rattle.laws_queries.specs.Machines.{widths_of}
-use Rattle.laws_queries.specs.Queries.{IsTurned, PlainQuery, change_at_first, log_at, operator_at, stream_log}
+use Rattle.laws_queries.specs.Queries.{IsTurned, change_at_first}
+use Rattle.laws_queries.specs.Plain.{PlainQuery, log_at, operator_at, stream_log}
 use Rattle.laws_queries.specs.Steps.{outs_at_first}
 use Rattle.laws_queries.proofs.NodeLemmas.{roots_run, turns_run}
 use Rattle.laws_queries.proofs.WireLemmas.{Wired, wired}
@@ -24,7 +26,8 @@ use Rattle.query_runtime.specs.Turns.{CanFinish, CanPut, HasAnswered, HasFed, Ha
 use Rattle.run_queue.specs.declared.slots.Slot.{Slot}
 use Rattle.laws_engine.specs.Asks.{IsOperator, MayAsk}
 use Rattle.laws_engine.specs.Calls.{IsAnsweredTurn, IsFinishedTurn, IsOf, answered, finished, given_back}
-use Rattle.laws_engine.specs.Engines.{AreRemains, Goes, GoodEngine, IsLease, Lease, PlainEngine, Running, remains_at, slot_at}
+use Rattle.laws_engine.specs.Engines.{Lease, PlainEngine, Running, remains_at, slot_at}
+use Rattle.laws_engine.specs.Good.{AreRemains, Goes, GoodEngine, IsLease}
 use Rattle.laws_engine.specs.Histories.{ComesBack}
 use Rattle.laws_engine.proofs.AskLemmas.{may_ask}
 use Rattle.laws_engine.proofs.BackLemmas.{remains_here, same_plain}

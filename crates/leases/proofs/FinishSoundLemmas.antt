@@ -13,14 +13,15 @@ use Rattle.turn.specs.declared.parts.Parts.{Parts}
 use Rattle.plan.proofs.Lists.{by_test}
 use Rattle.reference.specs.Machine.{Registered}
 use Rattle.leases.specs.Undropped.{undropped_of}
-use Rattle.laws_queries.specs.Queries.{PlainQuery, operator_at}
+use Rattle.laws_queries.specs.Plain.{PlainQuery, operator_at}
 use Rattle.laws_queries.specs.Registrations.{HaveColumnNames}
 use Rattle.laws_queries.specs.Steps.{outs_at_first}
 use Rattle.query_runtime.specs.Turns.{HasPut, wire_at}
 use Rattle.run_queue.specs.declared.slots.Slot.{Slot}
 use Rattle.laws_engine.specs.Bounds.{HaveFewClosed}
 use Rattle.laws_engine.specs.Calls.{answered, broken, finished, given_back, of_others, others}
-use Rattle.laws_engine.specs.Engines.{Broken, Dropped, GoodEngine, IsIn, IsLease, Lease, PlainEngine, Running, remains_at, upto_at}
+use Rattle.laws_engine.specs.Engines.{Broken, Dropped, Lease, PlainEngine, Running, remains_at}
+use Rattle.laws_engine.specs.Good.{GoodEngine, IsIn, IsLease, upto_at}
 use Rattle.laws_engine.specs.Histories.{ComesBack}
 use Rattle.laws_engine.proofs.BackLemmas.{remains_here, remains_there, same_plain}
 use Rattle.laws_engine.proofs.FinishLemmas.{answer_good, finish_good}
@@ -45,7 +46,7 @@ pub record StaysBut (old new : PlainEngine) : Type 0 where
   pub few : length new.leases ≤ length old.leases
   pub gone : map is_gone new.queries ≡ map is_gone old.queries
 
-pub sound_from : (old new : EngineState) → IsSound old → new.undropped ≡ old.undropped → new.readers.items ≡ readers_of (engine_in new) → ((g : Turn) → IsIn new.leases.items g → IsIn old.leases.items g) → GoodEngine (engine_in new) → StaysBut (engine_in old) (engine_in new)
+pub sound_from : (old new : EngineState) → IsSound old → new.undropped ≡ old.undropped → new.readers ≡ readers_of (engine_in new) → ((g : Turn) → IsIn new.leases.items g → IsIn old.leases.items g) → GoodEngine (engine_in new) → StaysBut (engine_in old) (engine_in new)
     → ((g : Turn) → IsIn old.leases.items g → HasKind (engine_in new) g) → IsSound new
 sound_from old new s undropped readers leases good st kinds = record {
   good = good;
@@ -136,7 +137,7 @@ module _ (old new : EngineState) (ls : List Lease) (slots : List Slot) (d : Leas
         few = few;
         gone = map-set_same is_gone e.queries d.query (Broken p.answers (upto_at e d.query)) Dropped (sym running_gone);
       } in
-      let readers : new.readers.items ≡ readers_of (engine_in new) =
+      let readers : new.readers ≡ readers_of (engine_in new) =
       f.readers ∙ ap (λ rs. filter (λ (r : WindowReader). not (r.query == d.query)) rs) s.readers
       ∙ readers_left d.query 0 d.query e.machine.queries (map runs e.queries) (omega arith)
       ∙ ap (readers_from 0 e.machine.queries) (sym (map-set runs e.queries d.query (Broken p.answers (upto_at e d.query)))) ∙ ap readers_of (sym is) in

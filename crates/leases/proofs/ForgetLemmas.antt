@@ -11,7 +11,8 @@ use Rattle.reference.specs.Named.{name_of_registered}
 use Rattle.reference.specs.Opening.{all_restarted, needs_by, restart, with_kept}
 use Rattle.laws_queries.specs.Registrations.{HasColumnNames, HaveColumnNames}
 use Rattle.laws_engine.specs.Bounds.{HaveFewClosed}
-use Rattle.laws_engine.specs.Engines.{GoodEngine, IsIn, PlainEngine, answers_in}
+use Rattle.laws_engine.specs.Engines.{PlainEngine, answers_in}
+use Rattle.laws_engine.specs.Good.{GoodEngine, IsIn}
 use Rattle.laws_engine.specs.Openings.{forgotten, marks_by}
 use Rattle.laws_engine.proofs.FewLemmas.{forgotten_few}
 use Rattle.laws_engine.proofs.ForgottenLemmas.{forgotten_good}
@@ -73,7 +74,7 @@ columns_left keep n (s ∷ ss) h = (record { some = h.0.some; few = h.0.few }, c
 
 -- IT IS SOUND, where few rows were answered before its queries' starts
 pub forgotten_sound : (s t : EngineState) → IsSound s → HaveFewClosed (forgotten (engine_in s)).machine → engine_in t ≡ forgotten (engine_in s) → t.leases.items ≡ s.leases.items → t.next ≡ s.next → t.undropped ≡ s.undropped
-    → t.readers.items ≡ s.readers.items → IsSound t
+    → t.readers ≡ s.readers → IsSound t
 forgotten_sound s t h closed is leases next undropped readers =
     let e = engine_in s in
     let ms = marks_by e.machine.queries e.queries in

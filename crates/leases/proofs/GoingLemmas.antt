@@ -2,11 +2,11 @@
 use Rattle.std.proofs.Common.{◌≡◌, ◌+◌, ◌-◌, ◌≤◌, ◌⊎◌, inl, inr, ℕ, suc, max, Option, Some, None, List, [], ◌∷◌, ◌++◌, length, map, refl, sym, ap, ap₂, ◌∙◌, subst, append-nil, append_assoc, arith}
 use Rattle.std.specs.Prelude.{slice_get}
 use Rattle.std.proofs.lemmas.List.{map-append}
-use Rattle.operators.specs.States.{last_in}
+use Rattle.operators.specs.Ready.{last_in}
 use Rattle.reference.specs.Machine.{Registered}
 use Rattle.reference.specs.Opening.{all_instants}
-use Rattle.laws_dataflow.specs.Queries.{behind}
-use Rattle.laws_queries.specs.Queries.{PlainQuery, operator_at}
+use Rattle.laws_dataflow.specs.Roots.{behind}
+use Rattle.laws_queries.specs.Plain.{PlainQuery, operator_at}
 use Rattle.laws_engine.specs.Engines.{PlainRemains, Running}
 use Rattle.laws_engine.specs.Openings.{mark_in, marks_by}
 use Rattle.leases.specs.Forgets.{AreMarkable, IsMarkable, going_of}

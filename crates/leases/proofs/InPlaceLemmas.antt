@@ -11,12 +11,13 @@ use Rattle.operators.specs.declared.runs.Refused.{Refused}
 use Rattle.operators.specs.declared.runs.Refused.TheVariants.{Before, Within}
 use Rattle.turn.specs.declared.turns.Turn.{Turn}
 use Rattle.reference.specs.Machine.{Stream}
-use Rattle.laws_queries.specs.Queries.{PlainQuery, operator_at}
+use Rattle.laws_queries.specs.Plain.{PlainQuery, operator_at}
 use Rattle.query_runtime.specs.Runs.{HasRun, HasRunLess, IsRunItem}
 use Rattle.query_runtime.specs.Turns.{log_of}
 use Rattle.run_queue.specs.Slots.{first_of}
 use Rattle.run_queue.specs.declared.slots.Slot.{Slot}
-use Rattle.laws_engine.specs.Engines.{Dropped, GoodEngine, PlainEngine, PlainRemains, Running, remains_at}
+use Rattle.laws_engine.specs.Engines.{Dropped, PlainEngine, PlainRemains, Running, remains_at}
+use Rattle.laws_engine.specs.Good.{GoodEngine}
 use Rattle.laws_engine.proofs.BackLemmas.{same_plain}
 use Rattle.leases.specs.Applied.{GivesNothing, HasTaken, HasTakenIn, HasTold, IsAbove, MayTell, with_remains}
 use Rattle.leases.specs.Asked.{HasOperatorAt}

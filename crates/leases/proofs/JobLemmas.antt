@@ -6,14 +6,16 @@ use Rattle.std.proofs.Math.Seq.{map-set_same}
 use Rattle.std.proofs.lemmas.List.{get_or-set_same, length-map, length-set, set-set, set_comm}
 use Rattle.std.proofs.lemmas.Option.{slice_get_within}
 use Rattle.reference.specs.Machine.{Registered}
-use Rattle.laws_queries.specs.Queries.{PlainQuery, log_at}
+use Rattle.laws_queries.specs.Plain.{PlainQuery, log_at}
 use Rattle.query_runtime.specs.Turns.{HasOperator, log_of}
 use Rattle.laws_queries.specs.Registrations.{HaveColumnNames}
-use Rattle.run_queue.specs.Slots.{changed}
+use Rattle.run_queue.specs.Changes.{changed}
 use Rattle.run_queue.specs.declared.slots.Slot.{Slot}
 use Rattle.laws_engine.specs.Asks.{IsOperator}
 use Rattle.laws_engine.specs.Bounds.{HaveFewClosed}
-use Rattle.laws_engine.specs.Engines.{Dropped, HasSlots, IsIn, PlainEngine, PlainRemains, Running, query_at, remains_at, slot_at, slot_of}
+use Rattle.laws_engine.specs.Engines.{Dropped, PlainEngine, PlainRemains, Running, query_at}
+use Rattle.laws_engine.specs.Engines.{remains_at, slot_at}
+use Rattle.laws_engine.specs.Good.{HasSlots, IsIn, slot_of}
 use Rattle.laws_engine.proofs.AskLemmas.{may_ask}
 use Rattle.laws_engine.proofs.BackLemmas.{remains_here, remains_there}
 use Rattle.leases.specs.Alone.{one_was_less_own}
@@ -185,7 +187,7 @@ module _ (e : PlainEngine) (rows : ℕ) (rest : List Job) (job : Job) (s : Engin
 
   -- THE STATE is as it was, except for the query that came home and its slots
   module _ (w : EngineState) (r : PlainRemains) (count : ℕ) (e2 : PlainEngine) (after : After e n count r e2) (counts : job.turns ≡ count) (lives : is_gone r ≡ false)
-      (is : engine_in w ≡ record e { queries = set here n r; next = e.next + count; slots = w.slots }) (slots : w.slots ≡ e2.slots) (leases : w.leases.items ≡ []) (undropped : w.undropped ≡ s.undropped) (readers : w.readers.items ≡ readers_of e2) where
+      (is : engine_in w ≡ record e { queries = set here n r; next = e.next + count; slots = w.slots }) (slots : w.slots ≡ e2.slots) (leases : w.leases.items ≡ []) (undropped : w.undropped ≡ s.undropped) (readers : w.readers ≡ readers_of e2) where
     machine : e2.machine ≡ e.machine
     machine = ap (λ (z : PlainEngine). z.machine) after.is
 
@@ -215,7 +217,7 @@ module _ (e : PlainEngine) (rows : ℕ) (rest : List Job) (job : Job) (s : Engin
     }
 
   -- IT IS PUT BACK
-  module _ (m : EngineState) (put : engine_in m ≡ record (engine_in s) { queries = set here n (remains_of job.remains); next = s.next + job.turns }) (undropped : m.undropped ≡ s.undropped) (readers : m.readers.items ≡ s.readers.items)
+  module _ (m : EngineState) (put : engine_in m ≡ record (engine_in s) { queries = set here n (remains_of job.remains); next = s.next + job.turns }) (undropped : m.undropped ≡ s.undropped) (readers : m.readers ≡ s.readers)
       (leases : m.leases.items ≡ s.leases.items) where
     abbrev pub after : PlainQuery
     after = done.after
@@ -333,9 +335,9 @@ module _ (e : PlainEngine) (rows : ℕ) (rest : List Job) (job : Job) (s : Engin
           ∙ ap (λ (z : PlainEngine). record z { slots = with_updates (engine_in m) job.slots.items m.slots }) engine_is
           ∙ ap (λ ss. record bare { slots = ss }) (sym (ap (λ (z : EngineState). z.slots) told))
 
-      readers_then : w.readers.items ≡ readers_of e1
+      readers_then : w.readers ≡ readers_of e1
       readers_then =
-          ap (λ (z : EngineState). z.readers.items) told ∙ readers ∙ out.readers
+          ap (λ (z : EngineState). z.readers) told ∙ readers ∙ out.readers
           ∙ ap (readers_from 0 e.machine.queries) (sym (map-set_same runs e.queries n (Running after) Dropped (sym (ap runs of.running))))
           ∙ ap readers_of (sym on.after.is)
 

@@ -1,7 +1,7 @@
 -- A job that has run: its query took steps of its own.
 use Rattle.std.proofs.Common.{◌≡◌, ◌≤◌, List, refl, arith}
 use Rattle.reference.specs.Machine.{Stream}
-use Rattle.laws_queries.specs.Queries.{PlainQuery}
+use Rattle.laws_queries.specs.Plain.{PlainQuery}
 use Rattle.laws_engine.specs.Engines.{Running}
 use Rattle.leases.specs.Alone.{HasRunAlone}
 use Rattle.leases.specs.Jobs.{HasRunJob, IsQuota}

@@ -7,11 +7,13 @@ use Rattle.values.specs.Row.{Row}
 use Rattle.column.specs.declared.batch.Side.{Side}
 use Rattle.column.specs.declared.batch.Side.TheVariants.{Left, Right}
 use Rattle.op_queue.specs.Logs.{Closed}
-use Rattle.operators.specs.Operators.{waiting}
+use Rattle.operators.specs.Ready.{waiting}
 use Rattle.reference.specs.Machine.{Registered}
 use Rattle.reference.specs.Opening.{restart}
-use Rattle.laws_queries.specs.Queries.{PlainQuery, log_at, no_operator, operator_at}
-use Rattle.laws_engine.specs.Engines.{Broken, Dropped, GoodEngine, PlainEngine, PlainRemains, Running, answers_in, query_at, remains_at}
+use Rattle.laws_queries.specs.Plain.{PlainQuery, log_at, no_operator, operator_at}
+use Rattle.laws_engine.specs.Engines.{Broken, Dropped, PlainEngine, PlainRemains, Running}
+use Rattle.laws_engine.specs.Engines.{answers_in, query_at, remains_at}
+use Rattle.laws_engine.specs.Good.{GoodEngine}
 use Rattle.laws_engine.specs.Openings.{forgotten, marks_by}
 use Rattle.laws_engine.proofs.ForgottenLemmas.{forgotten_query, forgotten_waits}
 use Rattle.laws_engine.proofs.MarkLemmas.{goes}

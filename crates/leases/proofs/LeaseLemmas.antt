@@ -8,23 +8,26 @@ use Rattle.turn.specs.Nodes.{PlainNode}
 use Rattle.turn.specs.declared.excerpts.Excerpt.{Excerpt}
 use Rattle.turn.specs.declared.turns.Turn.{Turn}
 use Rattle.operators.specs.Inboxes.{cut_of}
-use Rattle.operators.specs.Operators.{inbox_of, ready}
+use Rattle.operators.specs.Ready.{inbox_of, ready}
 use Rattle.names.specs.Faults as faults
 use Rattle.reference.specs.World.{drain_fault}
 use Rattle.reference.specs.declared.fault.Fault.{Fault}
 use Rattle.reference.specs.declared.fault.Fault.TheVariants.{BadLimit, TooManyLeases}
 use Rattle.reference.specs.declared.limits.TheConstants.{MAX_TURN}
 use Rattle.leases.specs.Undropped.{undropped_of}
-use Rattle.laws_queries.specs.Queries.{PlainQuery, log_at, operator_at}
+use Rattle.laws_queries.specs.Plain.{PlainQuery, log_at, operator_at}
 use Rattle.laws_queries.specs.Registrations.{HaveColumnNames}
 use Rattle.laws_queries.specs.Steps.{IsFirst}
-use Rattle.run_queue.specs.Slots.{changed, first_of}
+use Rattle.run_queue.specs.Slots.{first_of}
+use Rattle.run_queue.specs.Changes.{changed}
 use Rattle.run_queue.specs.declared.slots.Slot.{Slot}
 use Rattle.query_runtime.specs.Turns.{IsLeased, log_of}
 use Rattle.laws_engine.specs.Asks.{IsOperator}
 use Rattle.laws_engine.specs.Bounds.{HaveFewClosed}
 use Rattle.laws_engine.specs.Calls.{IsLeasable, given_out, leased, slot_updated}
-use Rattle.laws_engine.specs.Engines.{GoodEngine, IsIn, Lease, PlainEngine, Running, is_leased, is_of, next_at, ready_in, remains_at, slot_at}
+use Rattle.laws_engine.specs.Engines.{Lease, PlainEngine, Running, is_leased, is_of, next_at}
+use Rattle.laws_engine.specs.Engines.{ready_in, remains_at, slot_at}
+use Rattle.laws_engine.specs.Good.{GoodEngine, IsIn}
 use Rattle.laws_engine.specs.Promises.{HasAllWaiting, IsOfSteepest}
 use Rattle.laws_engine.proofs.AskLemmas.{may_ask}
 use Rattle.laws_engine.proofs.IdleLemmas.{idle_waits}
@@ -176,7 +179,7 @@ pub record HasGone (old new : EngineState) (s : Slot) (g : Turn) : Type 0 where
   pub slots : new.slots ≡ changed s None old.slots
   pub next : new.next ≡ old.next + 1
   pub undropped : new.undropped ≡ old.undropped
-  pub readers : new.readers.items ≡ old.readers.items
+  pub readers : new.readers ≡ old.readers
 
 gone_engine : (old new : EngineState) (s : Slot) (g : Turn) → HasGone old new s g → engine_in new ≡ out_of (engine_in old) s g
 gone_engine old new s g h =

@@ -5,12 +5,13 @@ use Rattle.std.specs.Global.{Global}
 use Rattle.std.specs.List.{find}
 use Rattle.plan.proofs.Lists.{by_test}
 use Rattle.reference.specs.Machine.{Registered}
-use Rattle.laws_queries.specs.Queries.{PlainQuery}
-use Rattle.run_queue.specs.Slots.{Stands}
+use Rattle.laws_queries.specs.Plain.{PlainQuery}
+use Rattle.run_queue.specs.Changes.{Stands}
 use Rattle.run_queue.specs.declared.slots.Slot.{Slot}
 use Rattle.laws_engine.specs.Calls.{IsOf, abandoned}
 use Rattle.laws_engine.proofs.FinishLemmas.{abandon_good}
-use Rattle.laws_engine.specs.Engines.{GoodEngine, IsIn, IsLease, Lease, PlainEngine, Running, query_at, remains_at, slot_at}
+use Rattle.laws_engine.specs.Engines.{Lease, PlainEngine, Running, query_at, remains_at, slot_at}
+use Rattle.laws_engine.specs.Good.{GoodEngine, IsIn, IsLease}
 use Rattle.leases.specs.Applied.{GivesNothing, HasEnded, IsUpdated, without_turn}
 use Rattle.leases.specs.Asked.{HasOperatorAt}
 use Rattle.leases.specs.Readers.{readers_of}

@@ -3,7 +3,8 @@ use Rattle.std.proofs.Common.{◌≡◌, ◌≢◌, ◌<◌, ◌≤◌, ◌+◌,
 use Rattle.std.specs.Prelude.{slice_get}
 use Rattle.std.specs.List.{AllByRecursion}
 use Rattle.std.proofs.lemmas.List.{drop_all, get_or-set_other, length-map, length-set, map-append, set-get_or, set-set}
-use Rattle.laws_engine.specs.Engines.{Dropped, GoodEngine, IsIn, PlainEngine, PlainRemains, query_at, remains_at}
+use Rattle.laws_engine.specs.Engines.{Dropped, PlainEngine, PlainRemains, query_at, remains_at}
+use Rattle.laws_engine.specs.Good.{GoodEngine, IsIn}
 use Rattle.turn.specs.declared.turns.Turn.{Turn}
 use Rattle.reference.specs.Machine.{Registered}
 use Rattle.laws_queries.specs.Registrations.{HaveColumnNames}

@@ -4,9 +4,11 @@ use Rattle.std.specs.Prelude.{slice_get}
 use Rattle.std.specs.List.{AllByRecursion}
 use Rattle.std.proofs.lemmas.List.{length-map}
 use Rattle.reference.specs.Machine.{Registered}
-use Rattle.laws_queries.specs.Queries.{PlainQuery}
+use Rattle.laws_queries.specs.Plain.{PlainQuery}
 use Rattle.laws_engine.specs.Asks.{IsOperator}
-use Rattle.laws_engine.specs.Engines.{AreRemains, Broken, Dropped, Goes, PlainEngine, PlainRemains, Running, query_at, remains_at}
+use Rattle.laws_engine.specs.Engines.{Broken, Dropped, PlainEngine, PlainRemains, Running, query_at}
+use Rattle.laws_engine.specs.Engines.{remains_at}
+use Rattle.laws_engine.specs.Good.{AreRemains, Goes}
 use Rattle.laws_engine.proofs.AskLemmas.{may_ask}
 use Rattle.laws_engine.proofs.BackLemmas.{same_plain}
 use Rattle.query_runtime.specs.Turns.{HasOperator}

@@ -7,7 +7,7 @@ use Rattle.plan.specs.Views.{node_of, nodes_of}
 use Rattle.reference.specs.Commands.{Drop, Take, first_fault, of_query, take_tests}
 use Rattle.reference.specs.Machine as machine
 use Rattle.reference.specs.Machine.{Registered}
-use Rattle.laws_queries.specs.Queries.{PlainQuery, log_at}
+use Rattle.laws_queries.specs.Plain.{PlainQuery, log_at}
 use Rattle.query_runtime.specs.Turns.{HasOperator, log_of}
 use Rattle.laws_engine.specs.Asks.{IsOperator}
 use Rattle.laws_engine.specs.Engines.{Running, query_at, remains_at}

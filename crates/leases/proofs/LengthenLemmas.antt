@@ -6,10 +6,9 @@ use Rattle.std.proofs.lemmas.Bool.{cases_lt, le-ltb, lt-ltb}
 use Rattle.std.proofs.lemmas.List.{get_or_past}
 use Rattle.column.specs.declared.batch.Side.{Side}
 use Rattle.column.specs.declared.batch.Side.TheVariants.{Left, Right}
-use Rattle.op_queue.specs.Cursors.{cursor_entries}
-use Rattle.op_queue.specs.Logs.{Closed, span_entries}
-use Rattle.operators.specs.Inboxes.{IsInboxWithin, entries_in, is_fed}
-use Rattle.operators.specs.Operators.{PlainOperator, waiting}
+use Rattle.op_queue.specs.Logs.{Closed, cursor_entries, span_entries}
+use Rattle.operators.specs.Inboxes.{IsInboxWithin, is_fed}
+use Rattle.operators.specs.Ready.{PlainOperator, entries_in, waiting}
 use Rattle.operators.specs.declared.inboxes.Inbox.{Inbox}
 use Rattle.operators.specs.declared.inboxes.Inbox.TheVariants.{First, Between}
 use Rattle.operators.proofs.InboxLemmas.{entries_fed}
@@ -18,11 +17,15 @@ use Rattle.plan.specs.Nodes.{Window, Select, Join, Project, Group, Distinct, ToS
 use Rattle.plan.proofs.Lists.{by_test}
 use Rattle.reference.specs.Commands.{change, closed_to}
 use Rattle.reference.specs.Machine.{Machine, Registered, Stream}
-use Rattle.stream_store.specs.Closing.{QueuesGain, closed_of, closing_of}
-use Rattle.laws_queries.specs.Queries.{HasInboxes, Reads, log_at, no_log, no_operator, node_at, operator_at, place_of, source_of, stream_log}
+use Rattle.stream_store.specs.Closing.{closed_of}
+use Rattle.stream_store.specs.Gains.{QueuesGain, closing_of}
+use Rattle.laws_queries.specs.Queries.{HasInboxes, Reads}
+use Rattle.laws_queries.specs.Plain.{log_at, no_log, no_operator, node_at, operator_at, place_of, source_of, stream_log}
 use Rattle.laws_queries.proofs.BeatLemmas.{change_here, change_there}
 use Rattle.laws_engine.specs.Calls.{IsHeartbeat, closed_over, heartbeat_taken}
-use Rattle.laws_engine.specs.Engines.{Broken, Dropped, GoodEngine, PlainEngine, PlainRemains, Running, query_at, remains_at}
+use Rattle.laws_engine.specs.Engines.{Broken, Dropped, PlainEngine, PlainRemains, Running, query_at}
+use Rattle.laws_engine.specs.Engines.{remains_at}
+use Rattle.laws_engine.specs.Good.{GoodEngine}
 use Rattle.laws_engine.proofs.HeartbeatLemmas.{goes_at, inboxes}
 use Rattle.leases.specs.Queues.{LengthensQueues, brought_in, brought_to, closed_entries, queue_in}
 

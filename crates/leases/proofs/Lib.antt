@@ -14,6 +14,7 @@ mod StreamLemmas
 mod QueueLemmas
 mod ReaderLemmas
 mod ListedLemmas
+mod ByStreamLemmas
 mod StandLemmas
 mod BeatLemmas
 mod EachLemmas
@@ -39,6 +40,7 @@ pub mod PendingLemmas
 pub mod LengthLemmas
 pub mod QueryLemmas
 mod ForgetLemmas
+mod WalkedLemmas
 mod KeepingLemmas
 mod KeptQueueLemmas
 mod CountedLemmas

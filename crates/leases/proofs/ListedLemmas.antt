@@ -1,5 +1,5 @@
 -- The list of readers is exact, whatever comes to the queries.
-use Rattle.std.proofs.Common.{◌≡◌, ◌<◌, ◌≤◌, ◌+◌, ◌==◌, ℕ, zero, suc, not, Bool, true, false, cond, inl, inr, Some, List, [], ◌∷◌, ◌++◌, drop, filter, get_or, length, map, set, refl, sym, ap, ap₂, ◌∙◌, subst, arith, append_assoc, append-nil, drop-cons, eqb-true, eq-eqb}
+use Rattle.std.proofs.Common.{◌≡◌, ◌<◌, ◌≤◌, ◌+◌, ◌==◌, ℕ, zero, suc, not, Bool, true, false, cond, inl, inr, Option, Some, List, [], ◌∷◌, ◌++◌, drop, filter, get_or, length, map, set, refl, sym, ap, ap₂, ◌∙◌, subst, arith, append_assoc, append-nil, drop-cons, eqb-true, eq-eqb}
 use Rattle.std.specs.Prelude.{slice_get}
 use Rattle.std.specs.Option.{option_to_list}
 use Rattle.std.proofs.lemmas.Bool.{ne_eqb}
@@ -8,9 +8,10 @@ use Rattle.std.proofs.lemmas.List.Elements.{filter-append}
 use Rattle.plan.specs.Nodes as plan
 use Rattle.reference.specs.Commands.{change}
 use Rattle.reference.specs.Machine.{Place, Registered}
-use Rattle.laws_queries.specs.Queries.{PlainQuery, node_at, place_of}
+use Rattle.laws_queries.specs.Plain.{PlainQuery, node_at, place_of}
 use Rattle.laws_engine.specs.Calls.{is_reading}
-use Rattle.laws_engine.specs.Engines.{Dropped, IsIn, PlainEngine, PlainRemains, Running}
+use Rattle.laws_engine.specs.Engines.{Dropped, PlainEngine, PlainRemains, Running}
+use Rattle.laws_engine.specs.Good.{IsIn}
 use Rattle.laws_engine.specs.Resting.{IsResting}
 use Rattle.leases.specs.Readers.{reader, reader_in, readers_from, readers_of, runs, windows_from}
 use Rattle.leases.specs.declared.reader.WindowReader.{WindowReader}
@@ -137,6 +138,15 @@ later_stay x m (q ∷ qs) (b ∷ bs) l =
     filter-append (is_other x) (cond b (windows_from q m 0 q.nodes) []) (readers_from (suc m) qs bs)
     ∙ ap₂ (λ a b. a ++ b) (if_stay x (windows_from q m 0 q.nodes) b (windows_stay q m x 0 q.nodes other)) (later_stay x (suc m) qs bs (omega (arith, l)))
 
+-- none is of a query with a later number
+pub earlier_stay : (x m : ℕ) (qs : List Registered) (bs : List Bool) → m + length qs ≤ x → filter (is_other x) (readers_from m qs bs) ≡ readers_from m qs bs
+earlier_stay x m [] bs l = refl
+earlier_stay x m (q ∷ qs) [] l = refl
+earlier_stay x m (q ∷ qs) (b ∷ bs) l =
+    let other : (m == x) ≡ false = ne_eqb m x (λ e. omega (arith, l, e)) in
+    filter-append (is_other x) (cond b (windows_from q m 0 q.nodes) []) (readers_from (suc m) qs bs)
+    ∙ ap₂ (λ a b. a ++ b) (if_stay x (windows_from q m 0 q.nodes) b (windows_stay q m x 0 q.nodes other)) (earlier_stay x (suc m) qs bs (omega (arith, l)))
+
 pub readers_left : (x m n : ℕ) (qs : List Registered) (bs : List Bool) → x ≡ m + n → filter (λ (r : WindowReader). not (r.query == x)) (readers_from m qs bs) ≡ readers_from m qs (set bs n false)
 readers_left x m n [] bs at = refl
 readers_left x m zero (q ∷ qs) [] at = refl
@@ -149,6 +159,22 @@ readers_left x m (suc n) (q ∷ qs) (b ∷ bs) at =
     let other : (m == x) ≡ false = ne_eqb m x (λ e. omega (arith, at, e)) in
     filter-append (is_other x) (cond b (windows_from q m 0 q.nodes) []) (readers_from (suc m) qs bs)
     ∙ ap₂ (λ a b. a ++ b) (if_stay x (windows_from q m 0 q.nodes) b (windows_stay q m x 0 q.nodes other)) (readers_left x (suc m) n qs bs (omega (arith, at)))
+
+-- a window of the query that comes is none of the others'
+pub own_comes : (q : Registered) (n k : ℕ) (node : plan.Node) (rs : List WindowReader) (r : WindowReader) → reader_in q n k node ≡ Some r → filter (is_other n) (rs ++ r ∷ []) ≡ filter (is_other n) rs
+own_comes q n k node rs r is =
+    filter-append (is_other n) rs (r ∷ [])
+    ∙ ap (λ (o : Option WindowReader). filter (is_other n) rs ++ filter (is_other n) (option_to_list o)) (sym is)
+    ∙ ap (λ l. filter (is_other n) rs ++ l) (reader_leaves q n n k node (eq-eqb n n refl))
+    ∙ append-nil (filter (is_other n) rs)
+
+-- and with all of them gone those of the others are left
+pub others_left : (q : Registered) (n : ℕ) (rs all left : List WindowReader) → filter (is_other n) rs ≡ rs → all ≡ rs ++ windows_from q n 0 q.nodes → left ≡ filter (is_other n) all → left ≡ rs
+others_left q n rs all left others is are =
+    are ∙ ap (filter (is_other n)) is
+    ∙ filter-append (is_other n) rs (windows_from q n 0 q.nodes)
+    ∙ ap₂ (λ a b. a ++ b) others (windows_leave q n n 0 q.nodes (eq-eqb n n refl))
+    ∙ append-nil rs
 
 -- A REGISTRATION brings those of its query
 pub readers_added : (m x : ℕ) (qs : List Registered) (ks : List PlainRemains) (q : Registered) (p : PlainQuery) → x ≡ m + length qs → length ks ≡ length qs

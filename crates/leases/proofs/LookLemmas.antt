@@ -6,10 +6,11 @@ use Rattle.plan.specs.Nodes.{Node}
 use Rattle.plan.specs.Paths.{plan_slopes, slope_of}
 use Rattle.plan.specs.declared.chart.Measure.{Measure}
 use Rattle.reference.specs.Machine.{Registered}
-use Rattle.laws_queries.specs.Queries.{PlainQuery}
+use Rattle.laws_queries.specs.Plain.{PlainQuery}
 use Rattle.run_queue.specs.declared.slots.Slot.{Slot}
 use Rattle.laws_engine.specs.Asks.{IsOperator, MayAsk}
-use Rattle.laws_engine.specs.Engines.{GoodEngine, Lease, PlainEngine, Running, query_at, remains_at}
+use Rattle.laws_engine.specs.Engines.{Lease, PlainEngine, Running, query_at, remains_at}
+use Rattle.laws_engine.specs.Good.{GoodEngine}
 use Rattle.laws_engine.proofs.AskLemmas.{may_ask}
 use Rattle.leases.specs.Applied.{MayTell}
 use Rattle.leases.specs.Asked.{HasOperatorAt}

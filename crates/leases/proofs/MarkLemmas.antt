@@ -6,9 +6,11 @@ use Rattle.std.proofs.lemmas.Option.{get_or_from_slice_get, slice_get-map, slice
 use Rattle.reference.specs.Machine.{Registered}
 use Rattle.reference.specs.Opening.{all_instants}
 use Rattle.laws_dataflow.proofs.AnswerLemmas.{shaped}
-use Rattle.laws_queries.specs.Queries.{PlainQuery}
+use Rattle.laws_queries.specs.Plain.{PlainQuery}
 use Rattle.laws_queries.specs.Machines.{widths_of}
-use Rattle.laws_engine.specs.Engines.{Broken, Dropped, Goes, PlainEngine, PlainRemains, Running, next_of, query_at, remains_at, upto_at, upto_in}
+use Rattle.laws_engine.specs.Engines.{Broken, Dropped, PlainEngine, PlainRemains, Running, next_of}
+use Rattle.laws_engine.specs.Engines.{query_at, remains_at, upto_in}
+use Rattle.laws_engine.specs.Good.{Goes, upto_at}
 use Rattle.laws_engine.proofs.InstantLemmas.{until_few}
 use Rattle.laws_engine.proofs.MarkLemmas.{goes, next_reached}
 use Rattle.leases.specs.Asked.{IsRunningAt}

@@ -3,8 +3,9 @@ use Rattle.std.proofs.Common.{◌≡◌, ◌≢◌, ◌<◌, ◌==◌, ℕ, zero
 use Rattle.std.specs.List.{find}
 use Rattle.std.proofs.lemmas.List.{get_or-set_same, length-map, map-set}
 use Rattle.plan.proofs.Lists.{by_test}
-use Rattle.laws_queries.specs.Queries.{PlainQuery}
-use Rattle.laws_engine.specs.Engines.{Dropped, IsIn, Lease, PlainRemains, Running}
+use Rattle.laws_queries.specs.Plain.{PlainQuery}
+use Rattle.laws_engine.specs.Engines.{Dropped, Lease, PlainRemains, Running}
+use Rattle.laws_engine.specs.Good.{IsIn}
 use Rattle.laws_engine.proofs.SlotLemmas.{in_filter}
 use Rattle.leases.specs.Views.{lease_of, remains_of}
 use Rattle.turn.specs.declared.turns.Turn.{Turn}

@@ -9,12 +9,15 @@ use Rattle.plan.proofs.Lists.{by_test}
 use Rattle.reference.specs.Machine.{Registered}
 use Rattle.turn.specs.declared.turns.Turn.{Turn}
 use Rattle.laws_queries.specs.Machines.{widths_of}
-use Rattle.laws_queries.specs.Queries.{PlainQuery, operator_at}
+use Rattle.laws_queries.specs.Plain.{PlainQuery, operator_at}
 use Rattle.query_runtime.specs.Passing.{HavePassed, MayPassAll}
-use Rattle.run_queue.specs.Slots.{first_of, slot, with_next}
+use Rattle.run_queue.specs.Slots.{first_of, slot}
+use Rattle.run_queue.specs.Changes.{with_next}
 use Rattle.run_queue.specs.declared.slots.Slot.{Slot}
 use Rattle.laws_engine.specs.Asks.{IsOperator}
-use Rattle.laws_engine.specs.Engines.{AreRemains, Dropped, Goes, GoodEngine, HasSlots, IsIn, PlainEngine, Running, is_of, query_at, remains_at, slope_at, slot_at, slot_in, slot_of}
+use Rattle.laws_engine.specs.Engines.{Dropped, PlainEngine, Running, is_of, query_at, remains_at}
+use Rattle.laws_engine.specs.Engines.{slope_at, slot_at}
+use Rattle.laws_engine.specs.Good.{AreRemains, Goes, GoodEngine, HasSlots, IsIn, slot_in, slot_of}
 use Rattle.laws_engine.specs.Passing.{HasPassed, with_passed}
 use Rattle.laws_engine.specs.Promises.{IsOfSteepest}
 use Rattle.laws_engine.proofs.AskLemmas.{may_ask}
@@ -229,7 +232,7 @@ module _ (s : EngineState) (x : Slot) (sound : IsSound s) (first : first_of s.sl
         pub sound_new : s.next < LEASE_NUMBERS → IsSound new
         sound_new lt = sound_from (counted s) new (counted_sound s sound lt)
             (ap (λ (z : EngineState). z.undropped) tells ∙ rest.undropped)
-            (ap (λ (z : EngineState). z.readers.items) tells ∙ rest.readers ∙ sound.readers
+            (ap (λ (z : EngineState). z.readers) tells ∙ rest.readers ∙ sound.readers
             ∙ ap (readers_from 0 e.machine.queries) (sym (map-set_same runs e.queries n (Running p2) Dropped (sym (ap runs top.running)))) ∙ ap readers_of (sym engine_is))
             (λ g i. rest.leases g (subst (λ (z : EngineState). IsIn z.leases.items g) tells i))
             (subst GoodEngine (sym engine_is) told_good)

@@ -4,10 +4,11 @@ use Rattle.values.specs.Row.{Row}
 use Rattle.op_queue.specs.Cursors as cursors
 use Rattle.op_queue.specs.Entries.{TickAt}
 use Rattle.op_queue.specs.Logs.{Closed}
-use Rattle.join.specs.Turns.{JoinState, SideState, marked, with_marks}
+use Rattle.join.specs.Turns.{marked, with_marks}
+use Rattle.join.specs.States.{JoinState, SideState}
 use Rattle.to_stream.specs.Turns as root
-use Rattle.operators.specs.Inboxes.{entries_in, is_fed}
-use Rattle.operators.specs.Operators.{PlainOperator}
+use Rattle.operators.specs.Inboxes.{is_fed}
+use Rattle.operators.specs.Ready.{PlainOperator, entries_in}
 use Rattle.operators.specs.Passing as op
 use Rattle.operators.specs.Passing.{AreGone, IsPassed, MayLeave, MayPass, state_passed}
 use Rattle.operators.specs.declared.inboxes.Inbox.{Inbox}
@@ -16,12 +17,14 @@ use Rattle.operators.specs.declared.states.State as states
 use Rattle.operators.specs.declared.states.State.TheVariants as state
 use Rattle.plan.specs.Nodes as plan
 use Rattle.laws_dataflow.specs.Nets.{Cell, World, at_join, at_unary, at_window}
-use Rattle.laws_dataflow.specs.Plans.{below_root, world_of}
+use Rattle.laws_dataflow.specs.Plans.{world_of}
+use Rattle.laws_dataflow.specs.Roots.{below_root}
 use Rattle.laws_dataflow.proofs.AnswerLemmas.{query_laid, shaped}
 use Rattle.laws_dataflow.proofs.PlanLemmas.{Shaped}
 use Rattle.laws_queries.specs.Passing as passing
 use Rattle.laws_queries.specs.Passing.{LeftPasses, Passes, PassesAtRoot, QueryPasses, passed_state}
-use Rattle.laws_queries.specs.Queries.{IsLeftInbox, IsRunning, PlainQuery, log_at, node_at, operator_at}
+use Rattle.laws_queries.specs.Queries.{IsLeftInbox, IsRunning}
+use Rattle.laws_queries.specs.Plain.{PlainQuery, log_at, node_at, operator_at}
 use Rattle.laws_queries.specs.Runs.{Runs, WindowStands}
 use Rattle.laws_queries.specs.Widths.{width_at}
 use Rattle.reference.specs.Machine.{Machine, Registered}

@@ -11,7 +11,7 @@ use Rattle.reference.specs.World.{Does, Step, World, begins_at, register_step, u
 use Rattle.reference.specs.declared.fault.Fault.{Fault}
 use Rattle.reference.specs.declared.fault.Fault.TheVariants.{OutOfMemory}
 use Rattle.reference.proofs.StepLemmas.{lacked, refused_before, refused_text}
-use Rattle.laws_queries.specs.Queries.{PlainQuery}
+use Rattle.laws_queries.specs.Plain.{PlainQuery}
 use Rattle.laws_engine.specs.Calls.{IsRegistration, registered}
 use Rattle.laws_engine.specs.Engines.{PlainEngine, Running, answers_in, next_of, upto_by, world_of}
 use Rattle.laws_engine.proofs.UptoLemmas.{upto_added}

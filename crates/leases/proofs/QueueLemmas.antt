@@ -3,12 +3,12 @@ use Rattle.std.proofs.Common.{◌≡◌, ℕ, ℤ, Option, Some, None, Result, O
 use Rattle.std.specs.Prelude.{⊤}
 use Rattle.std.specs.Option.{option_map_or}
 use Rattle.column.specs.declared.batch.Side.{Side}
-use Rattle.operators.specs.Operators.{waiting}
+use Rattle.operators.specs.Ready.{waiting}
 use Rattle.reference.specs.Commands.{Append, after, first_fault}
 use Rattle.reference.specs.Machine.{Registered, Stream}
 use Rattle.reference.specs.World.{Does, Step, World, append_step, unless}
 use Rattle.reference.specs.declared.fault.Fault.{Fault}
-use Rattle.laws_queries.specs.Queries.{node_at, operator_at, source_of}
+use Rattle.laws_queries.specs.Plain.{node_at, operator_at, source_of}
 use Rattle.laws_queries.proofs.AppendLemmas.{append_logs}
 use Rattle.laws_engine.specs.Calls.{appended}
 use Rattle.laws_engine.specs.Engines.{Broken, Dropped, PlainEngine, PlainRemains, Running, query_at, remains_at, world_of}

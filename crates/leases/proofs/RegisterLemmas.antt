@@ -6,16 +6,18 @@ use Rattle.std.specs.declared.cmp.Ordering.{Ordering}
 use Rattle.std.specs.declared.cmp.Ordering.TheVariants.{Less, Equal, Greater}
 use Rattle.std.proofs.lemmas.Bool.{eq-eqb, ne_eqb}
 use Rattle.envelope.specs.Fraction.{Fraction, fraction}
-use Rattle.operators.specs.Operators.{ready}
+use Rattle.operators.specs.Ready.{ready}
 use Rattle.plan.specs.Nodes as plan
 use Rattle.plan.specs.Paths.{plan_slopes}
 use Rattle.reference.specs.Machine.{Registered, Stream}
-use Rattle.laws_queries.specs.Queries.{PlainQuery, log_at, operator_at}
+use Rattle.laws_queries.specs.Plain.{PlainQuery, log_at, operator_at}
 use Rattle.query_runtime.specs.Turns.{log_of}
-use Rattle.run_queue.specs.Slots.{put, slot, slot_cmp, without_query}
+use Rattle.run_queue.specs.Slots.{slot, slot_cmp}
+use Rattle.run_queue.specs.Changes.{put, without_query}
 use Rattle.run_queue.specs.declared.slots.Slot.{Slot}
 use Rattle.laws_engine.specs.Calls.{with_slots}
-use Rattle.laws_engine.specs.Engines.{IsIn, Lease, PlainEngine, is_of, slot_at}
+use Rattle.laws_engine.specs.Engines.{Lease, PlainEngine, is_of, slot_at}
+use Rattle.laws_engine.specs.Good.{IsIn}
 use Rattle.leases.specs.Registering.{new_slot, with_first}
 
 -- WITHOUT THE SLOTS of a query

@@ -4,13 +4,15 @@ use Rattle.std.specs.Prelude.{⊤}
 use Rattle.std.specs.List.{AllByRecursion}
 use Rattle.std.specs.declared.cmp.Ordering.TheVariants.{Equal}
 use Rattle.reference.specs.Machine.{Registered}
-use Rattle.laws_queries.specs.Queries.{PlainQuery}
+use Rattle.laws_queries.specs.Plain.{PlainQuery}
 use Rattle.query_runtime.specs.Turns.{wire_at}
-use Rattle.run_queue.specs.Slots.{Stands, slot_cmp}
+use Rattle.run_queue.specs.Slots.{slot_cmp}
+use Rattle.run_queue.specs.Changes.{Stands}
 use Rattle.run_queue.specs.declared.slots.Slot.{Slot}
 use Rattle.run_queue.proofs.StandLemmas.{same_operator}
 use Rattle.laws_engine.specs.Calls.{IsOf}
-use Rattle.laws_engine.specs.Engines.{GoodEngine, IsIn, Lease, PlainEngine, slot_at, slot_of}
+use Rattle.laws_engine.specs.Engines.{Lease, PlainEngine, slot_at}
+use Rattle.laws_engine.specs.Good.{GoodEngine, IsIn, slot_of}
 use Rattle.laws_engine.proofs.PromiseLemmas.{slot_is}
 use Rattle.leases.specs.Applied.{BothStand}
 use Rattle.leases.proofs.FinishLemmas.{below_of, to_later, to_within}

@@ -2,12 +2,12 @@
 use Rattle.std.proofs.Common.{◌≡◌, ◌≤◌, ◌-◌, ℕ, suc, Option, ◌++◌, Bool, true, false, cond, inl, inr, ◌⊎◌, List, [], ◌∷◌, map, length, append-nil, append_assoc, arith, refl, sym, ap, ap₂, ◌∙◌, subst}
 use Rattle.std.specs.Prelude.{get_or}
 use Rattle.values.specs.Row.{Row}
-use Rattle.operators.specs.States.{last_in}
+use Rattle.operators.specs.Ready.{last_in}
 use Rattle.reference.specs.Machine.{Registered}
 use Rattle.reference.specs.Opening.{all_instants}
 use Rattle.reference.specs.Status.{QueryStatus, queries_status, query_status, status_of, stream_status}
-use Rattle.laws_dataflow.specs.Queries.{behind}
-use Rattle.laws_queries.specs.Queries.{PlainQuery, operator_at}
+use Rattle.laws_dataflow.specs.Roots.{behind}
+use Rattle.laws_queries.specs.Plain.{PlainQuery, operator_at}
 use Rattle.laws_engine.specs.Engines.{Broken, Dropped, PlainEngine, PlainRemains, Running, answers_in, next_of, upto_by, upto_in, world_of}
 use Rattle.leases.specs.Forgets.{IsMarkable}
 use Rattle.leases.specs.Looks.{is_broken, queries_in, status_at, status_in_engine}

@@ -7,9 +7,10 @@ use Rattle.std.specs.declared.cmp.Ordering.{Ordering}
 use Rattle.std.specs.declared.cmp.Ordering.TheVariants.{Less, Equal, Greater}
 use Rattle.column.specs.declared.batch.Side.{Side}
 use Rattle.envelope.specs.Fraction.{fraction_cmp}
-use Rattle.run_queue.specs.Slots.{first_of, slot_cmp, with_next}
+use Rattle.run_queue.specs.Slots.{first_of, slot_cmp}
+use Rattle.run_queue.specs.Changes.{with_next}
 use Rattle.run_queue.specs.declared.slots.Slot.{Slot}
-use Rattle.laws_engine.specs.Engines.{IsIn}
+use Rattle.laws_engine.specs.Good.{IsIn}
 use Rattle.leases.proofs.UpdateLemmas.{all_in, not_both}
 
 -- THE FIRST of a list: each other one stands behind it

@@ -6,12 +6,15 @@ use Rattle.turn.specs.declared.excerpts.Excerpt.TheVariants.{Nothing}
 use Rattle.turn.specs.declared.turns.Turn.{Turn}
 use Rattle.plan.proofs.Lists.{by_test}
 use Rattle.reference.specs.Machine.{Registered}
-use Rattle.laws_queries.specs.Queries.{PlainQuery}
+use Rattle.laws_queries.specs.Plain.{PlainQuery}
 use Rattle.query_runtime.specs.Turns.{wire_at}
-use Rattle.run_queue.specs.Slots.{changed, first_of, slot, with_next}
+use Rattle.run_queue.specs.Slots.{first_of, slot}
+use Rattle.run_queue.specs.Changes.{changed, with_next}
 use Rattle.run_queue.specs.declared.slots.Slot.{Slot}
 use Rattle.laws_engine.specs.Calls.{IsOf, others}
-use Rattle.laws_engine.specs.Engines.{GoodEngine, HasSlots, IsIn, IsLease, Lease, PlainEngine, Running, is_leased, is_of, next_at, query_at, remains_at, slope_at, slot_at, slot_of}
+use Rattle.laws_engine.specs.Engines.{Lease, PlainEngine, Running, is_leased, is_of, next_at}
+use Rattle.laws_engine.specs.Engines.{query_at, remains_at, slope_at, slot_at}
+use Rattle.laws_engine.specs.Good.{GoodEngine, HasSlots, IsIn, IsLease, slot_of}
 use Rattle.laws_engine.specs.Promises.{IsOfSteepest}
 use Rattle.laws_engine.proofs.BackLemmas.{same_plain, same_query, unequal}
 use Rattle.laws_engine.proofs.LeaseLemmas.{lease_good}

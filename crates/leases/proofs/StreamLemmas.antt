@@ -11,7 +11,8 @@ use Rattle.laws_queries.proofs.NewestLemmas.{registrations_stand}
 use Rattle.laws_engine.specs.Bounds.{HaveFewClosed}
 use Rattle.laws_engine.proofs.InstantLemmas.{few_closed_stand}
 use Rattle.laws_engine.specs.Calls.{appended, declared}
-use Rattle.laws_engine.specs.Engines.{GoodEngine, PlainEngine, world_of}
+use Rattle.laws_engine.specs.Engines.{PlainEngine, world_of}
+use Rattle.laws_engine.specs.Good.{GoodEngine}
 use Rattle.laws_engine.proofs.AppendedLemmas.{append_good}
 use Rattle.laws_engine.proofs.DeclaredLemmas.{declare_good}
 use Rattle.leases.specs.Shown.{engine_in}

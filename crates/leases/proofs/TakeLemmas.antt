@@ -9,7 +9,7 @@ use Rattle.laws_engine.specs.Bounds.{HaveFewClosed}
 use Rattle.arrayvec.specs.ArrayVec.{ArrayVec}
 use Rattle.values.specs.Row.{Row}
 use Rattle.names.specs.Faults.{first_of}
-use Rattle.operators.specs.Operators.{PlainOperator}
+use Rattle.operators.specs.Ready.{PlainOperator}
 use Rattle.reference.proofs.StepLemmas.{get_or-map, set-change}
 use Rattle.reference.specs.CallViews.{handed_of}
 use Rattle.reference.specs.Commands.{Take, change, first_fault, of_query, take_tests, took}
@@ -23,9 +23,11 @@ use Rattle.reference.specs.declared.fault.Fault.{Fault}
 use Rattle.reference.specs.declared.fault.Fault.TheVariants as fault
 use Rattle.reference.specs.declared.fault.Fault.TheVariants.{Query, BadName, NameTaken, BadColumns, TooMany, UnknownStream, UnknownQuery, BadWidth, ValueRange, InstantRange, Late, Backward, Leap, StreamFull, BadLimit, UnknownLease, Stranger, TooManyLeases, HistoryFull, OutOfMemory, Foreign}
 use Rattle.laws_queries.specs.Registrations.{HaveColumnNames}
-use Rattle.laws_queries.specs.Queries.{PlainQuery, operator_at}
+use Rattle.laws_queries.specs.Plain.{PlainQuery, operator_at}
 use Rattle.laws_engine.specs.Calls.{IsTake, remains_after, taken}
-use Rattle.laws_engine.specs.Engines.{Broken, Dropped, GoodEngine, IsExhausted, IsIn, PlainEngine, PlainRemains, Running, answers_in, query_at, remains_at}
+use Rattle.laws_engine.specs.Engines.{Broken, Dropped, IsExhausted, PlainEngine, PlainRemains}
+use Rattle.laws_engine.specs.Engines.{Running, answers_in, query_at, remains_at}
+use Rattle.laws_engine.specs.Good.{GoodEngine, IsIn}
 use Rattle.laws_engine.proofs.TakeLemmas.{take_good}
 use Rattle.leases.specs.Readers.{readers_from, readers_of, runs}
 use Rattle.leases.proofs.ListedLemmas.{readers_changed}
@@ -144,7 +146,7 @@ is_taken s e2 n limit x y r r2 count here there is_remains is_registered keeps t
     ∙ ap (with_both (engine_in s) (change n (took count) (map query_of s.registered.items))) (set-change remains_of (remains_after count) s.remains.items n y x here (keeps ∙ ap (λ z. remains_after count (remains_of z)) is_remains))
 
 -- WHAT IT KNOWS OF ITSELF after a take
-pub sound_again : (s s2 : EngineState) → IsSound s → engine_in s2 ≡ engine_in s → s2.leases.items ≡ s.leases.items → s2.next ≡ s.next → s2.undropped ≡ s.undropped → s2.readers.items ≡ s.readers.items → IsSound s2
+pub sound_again : (s s2 : EngineState) → IsSound s → engine_in s2 ≡ engine_in s → s2.leases.items ≡ s.leases.items → s2.next ≡ s.next → s2.undropped ≡ s.undropped → s2.readers ≡ s.readers → IsSound s2
 sound_again s s2 h same leases next undropped readers = record {
   good = subst GoodEngine (sym same) h.good;
   kinds = λ g i. subst (λ e. HasKind e g) (sym same) (h.kinds g (subst (λ ls. IsIn ls g) leases i));
@@ -213,7 +215,7 @@ kind_taken e n limit count g h p running =
     get_operator os k = operator_at os k
 
 pub sound_taken : (s s2 : EngineState) (n : ℕ) (limit : ℤ) (count : ℕ) → IsSound s → IsTake (engine_in s) n limit count → engine_in s2 ≡ taken (engine_in s) n limit count → s2.leases.items ≡ s.leases.items → s2.next ≡ s.next → s2.undropped ≡ s.undropped
-    → s2.readers.items ≡ s.readers.items → IsSound s2
+    → s2.readers ≡ s.readers → IsSound s2
 sound_taken s s2 n limit count h t is leases next undropped readers = record {
   good = subst GoodEngine (sym is) (take_good (engine_in s) n limit count h.good t);
   kinds = λ g i. subst (λ e. HasKind e g) (sym is) (kind_taken (engine_in s) n limit count g (h.kinds g (subst (λ ls. IsIn ls g) leases i)));

@@ -5,10 +5,12 @@ use Rattle.std.proofs.lemmas.Bool.Decides.{nat_tests}
 use Rattle.std.proofs.lemmas.Option.{slice_get_within}
 use Rattle.plan.proofs.Lists.{by_test}
 use Rattle.reference.specs.Machine.{Registered}
-use Rattle.laws_queries.specs.Queries.{PlainQuery}
-use Rattle.run_queue.specs.Slots.{slot, with_next}
+use Rattle.laws_queries.specs.Plain.{PlainQuery}
+use Rattle.run_queue.specs.Slots.{slot}
+use Rattle.run_queue.specs.Changes.{with_next}
 use Rattle.run_queue.specs.declared.slots.Slot.{Slot}
-use Rattle.laws_engine.specs.Engines.{AreRemains, Goes, GoodEngine, HasSlots, IsIn, PlainEngine, Running, query_at, remains_at, slope_at, slot_at, slot_in, slot_of}
+use Rattle.laws_engine.specs.Engines.{PlainEngine, Running, query_at, remains_at, slope_at, slot_at}
+use Rattle.laws_engine.specs.Good.{AreRemains, Goes, GoodEngine, HasSlots, IsIn, slot_in, slot_of}
 use Rattle.laws_engine.proofs.BackLemmas.{numbered, remains_here, remains_there}
 use Rattle.laws_engine.proofs.PromiseLemmas.{is_slot, slot_is}
 use Rattle.laws_engine.proofs.TableLemmas.{running_slot, same_slot_in}

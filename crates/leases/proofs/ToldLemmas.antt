@@ -3,9 +3,10 @@ use Rattle.std.proofs.Common.{◌≡◌, ◌≢◌, ℕ, inl, inr, ◌⊎◌, �
 use Rattle.std.specs.Prelude.{⊤}
 use Rattle.std.specs.Option.{option_to_list}
 use Rattle.column.specs.declared.batch.Side.{Side}
-use Rattle.run_queue.specs.Slots.{changed, with_next}
+use Rattle.run_queue.specs.Changes.{changed, with_next}
 use Rattle.run_queue.specs.declared.slots.Slot.{Slot}
-use Rattle.laws_engine.specs.Engines.{HasSlots, IsIn, PlainEngine}
+use Rattle.laws_engine.specs.Engines.{PlainEngine}
+use Rattle.laws_engine.specs.Good.{HasSlots, IsIn}
 use Rattle.laws_engine.proofs.SlotLemmas.{AreNumbered, changed_slots, numbers}
 use Rattle.laws_engine.proofs.TableLemmas.{updated, updated_here, updated_numbered, updated_there}
 use Rattle.leases.specs.Readers.{next_for, with_updates}

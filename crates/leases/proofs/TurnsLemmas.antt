@@ -14,7 +14,7 @@ use Rattle.op_queue.specs.declared.item.Item.{Item}
 use Rattle.op_queue.specs.declared.item.Item.TheVariants.{Tick}
 use Rattle.turn.specs.Turns.{Answered, Outs, Put}
 use Rattle.turn.specs.declared.excerpts.Excerpt.TheVariants.{Nothing}
-use Rattle.operators.specs.Operators.{ready}
+use Rattle.operators.specs.Ready.{ready}
 use Rattle.operators.specs.declared.runs.Refused.{Refused}
 use Rattle.operators.specs.declared.runs.Refused.TheVariants.{Before, Within}
 use Rattle.names.specs.Faults as faults
@@ -23,14 +23,18 @@ use Rattle.reference.specs.Machine.{Registered, Stream}
 use Rattle.reference.specs.declared.fault.Fault.{Fault}
 use Rattle.reference.specs.declared.fault.Fault.TheVariants.{BadLimit, TooManyLeases}
 use Rattle.reference.specs.declared.limits.TheConstants.{MAX_TURN}
-use Rattle.laws_queries.specs.Queries.{PlainQuery, change_at_first, log_at, operator_at}
+use Rattle.laws_queries.specs.Queries.{change_at_first}
+use Rattle.laws_queries.specs.Plain.{PlainQuery, log_at, operator_at}
 use Rattle.laws_queries.specs.Steps.{IsFirst, outs_at_first}
 use Rattle.query_runtime.specs.Turns.{CanPut, HasFinished, HasPut, log_of, wire_at}
-use Rattle.run_queue.specs.Slots.{changed, first_of, goes_on, slot, slot_cmp, with_next}
+use Rattle.run_queue.specs.Slots.{first_of, slot, slot_cmp}
+use Rattle.run_queue.specs.Changes.{changed, goes_on, with_next}
 use Rattle.run_queue.specs.declared.slots.Slot.{Slot}
 use Rattle.run_queue.proofs.StandLemmas.{changed_nothing}
 use Rattle.laws_engine.specs.Calls.{IsOf}
-use Rattle.laws_engine.specs.Engines.{IsIn, Lease, PlainEngine, Running, is_leased, next_at, query_at, remains_at, slope_at, slot_at, slot_of}
+use Rattle.laws_engine.specs.Engines.{Lease, PlainEngine, Running, is_leased, next_at, query_at}
+use Rattle.laws_engine.specs.Engines.{remains_at, slope_at, slot_at}
+use Rattle.laws_engine.specs.Good.{IsIn, slot_of}
 use Rattle.laws_engine.proofs.BackLemmas.{numbered, remains_here, same_plain, same_query}
 use Rattle.laws_engine.proofs.PromiseLemmas.{first_in, is_slot, slot_is}
 use Rattle.leases.specs.Applied.{BothStand, GivesNothing, HasTold, IsAbove, IsUpdated, MayTell, with_remains}

@@ -5,10 +5,12 @@ use Rattle.std.specs.List.Sorted.{IsStrictlySortedBy}
 use Rattle.std.specs.Ordering.{ordering_reverse}
 use Rattle.std.specs.declared.cmp.Ordering.TheVariants.{Less, Greater}
 use Rattle.column.specs.declared.batch.Side.{Side}
-use Rattle.run_queue.specs.Slots.{changed, slot_cmp, with_next}
+use Rattle.run_queue.specs.Slots.{slot_cmp}
+use Rattle.run_queue.specs.Changes.{changed, with_next}
 use Rattle.run_queue.specs.declared.slots.Slot.{Slot}
 use Rattle.run_queue.proofs.SlotLemmas.{slots_total}
-use Rattle.laws_engine.specs.Engines.{GoodEngine, HasSlots, IsIn, PlainEngine, slot_of}
+use Rattle.laws_engine.specs.Engines.{PlainEngine}
+use Rattle.laws_engine.specs.Good.{GoodEngine, HasSlots, IsIn, slot_of}
 use Rattle.laws_engine.proofs.BackLemmas.{numbered}
 use Rattle.laws_engine.proofs.SlotLemmas.{AreNumbered, changed_slots}
 use Rattle.laws_engine.proofs.TableLemmas.{updated, updated_here, updated_numbered, updated_there}

@@ -6,7 +6,8 @@ use Rattle.run_queue.specs.declared.slots.Slot.{Slot}
 use Rattle.reference.specs.Machine.{Registered, Stream, empty}
 use Rattle.laws_queries.specs.Machines.{IsMachine}
 use Rattle.laws_queries.proofs.RowLemmas.{rows_stand}
-use Rattle.laws_engine.specs.Engines.{Broken, Dropped, GoodEngine, query_at, slot_of}
+use Rattle.laws_engine.specs.Engines.{Broken, Dropped, query_at}
+use Rattle.laws_engine.specs.Good.{GoodEngine, slot_of}
 use Rattle.leases.specs.Views.{empty_engine, engine_of, lease_of, remains_of, waiting_in}
 use Rattle.turn.specs.declared.turns.Turn.{Turn}
 use Rattle.leases.specs.Shown.{engine_in}

@@ -13,7 +13,10 @@ use Rattle.reference.specs.declared.fault.Fault.TheVariants as fault
 use Rattle.reference.specs.declared.fault.Fault.TheVariants.{Query, BadName, NameTaken, BadColumns, TooMany, UnknownStream, UnknownQuery, BadWidth, ValueRange, InstantRange, Late, Backward, Leap, StreamFull, BadLimit, UnknownLease, Stranger, TooManyLeases, HistoryFull, OutOfMemory, Foreign}
 use Rattle.run_queue.specs.Slots.{first_of}
 use Rattle.laws_engine.specs.Calls.{remains_after, taken}
-use Rattle.laws_engine.specs.Engines.{Broken, Dropped, GoodEngine, IsExhausted, PlainEngine, PlainRemains, Running, answers_in, query_at, remains_at, upto_by, upto_in, world_of}
+use Rattle.laws_engine.specs.Engines.{Broken, Dropped, IsExhausted, PlainEngine, PlainRemains}
+use Rattle.laws_engine.specs.Engines.{Running, answers_in, query_at, remains_at, upto_by, upto_in}
+use Rattle.laws_engine.specs.Engines.{world_of}
+use Rattle.laws_engine.specs.Good.{GoodEngine}
 use Rattle.laws_engine.specs.Promises.{GivesBeginnings, HasAllWaiting}
 use Rattle.laws_engine.proofs.IdleLemmas.{idle_reached, idle_waits}
 use Rattle.laws_engine.proofs.PromiseLemmas.{keeps_its_promises}

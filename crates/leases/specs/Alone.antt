@@ -1,17 +1,19 @@
 -- A query that is drained by itself.
-use Rattle.std.specs.Prelude.{ℕ, ◌≡◌, ◌<◌, ◌≤◌, ◌||◌, Bool, true, false, Some, List, [], ◌∷◌, length}
+use Rattle.std.specs.Prelude.{ℕ, ◌≡◌, ◌<◌, ◌≤◌, ◌||◌, Bool, true, false, Some, List, [], ◌∷◌}
+use Rattle.std.specs.Prelude.{length}
 use Rattle.column.specs.declared.batch.Side.{Side}
-use Rattle.operators.specs.Operators.{ready}
+use Rattle.operators.specs.Ready.{ready}
 use Rattle.operators.specs.Runs.{Stops}
 use Rattle.operators.specs.declared.runs.Refused.{Refused}
 use Rattle.reference.specs.Machine.{Registered, Stream}
-use Rattle.laws_queries.specs.Queries.{PlainQuery, operator_at}
+use Rattle.laws_queries.specs.Plain.{PlainQuery, operator_at}
 use Rattle.query_runtime.specs.Passing.{HavePassed, MayPassAll}
 use Rattle.query_runtime.specs.Runs.{HasRun}
 use Rattle.query_runtime.specs.Turns.{HasOperator, log_of}
 use Rattle.run_queue.specs.declared.slots.Slot.{Slot}
 use Rattle.laws_engine.specs.Bounds.{HaveFewClosed}
-use Rattle.laws_engine.specs.Engines.{GoodEngine, PlainEngine, Running, query_at, remains_at}
+use Rattle.laws_engine.specs.Engines.{PlainEngine, Running, query_at, remains_at}
+use Rattle.laws_engine.specs.Good.{GoodEngine}
 use Rattle.leases.specs.declared.state.jobs.Quota.{Quota}
 use Rattle.leases.specs.declared.state.jobs.Ran.{Ran}
 

@@ -6,14 +6,16 @@ use Rattle.turn.specs.Turns.{outs_in}
 use Rattle.turn.specs.declared.parts.Parts.{Parts}
 use Rattle.turn.specs.declared.turns.Turn.{Turn}
 use Rattle.reference.specs.Machine.{Registered, Stream}
-use Rattle.laws_queries.specs.Queries.{PlainQuery, change_at_first, operator_at}
+use Rattle.laws_queries.specs.Queries.{change_at_first}
+use Rattle.laws_queries.specs.Plain.{PlainQuery, operator_at}
 use Rattle.laws_queries.specs.Steps.{outs_at_first}
 use Rattle.query_runtime.specs.Turns.{CanFinish, CanPut, HasBatches, HasFinished, HasOperator}
 use Rattle.query_runtime.specs.Turns.{HasPut, log_of, wire_at}
-use Rattle.run_queue.specs.Slots.{Stands, changed, without_query}
+use Rattle.run_queue.specs.Changes.{Stands, changed, without_query}
 use Rattle.run_queue.specs.declared.slots.Slot.{Slot}
 use Rattle.laws_engine.specs.Calls.{IsOf, broken, broken_at, others}
-use Rattle.laws_engine.specs.Engines.{IsIn, Lease, PlainEngine, PlainRemains, Running, next_at}
+use Rattle.laws_engine.specs.Engines.{Lease, PlainEngine, PlainRemains, Running, next_at}
+use Rattle.laws_engine.specs.Good.{IsIn}
 use Rattle.laws_engine.specs.Engines.{query_at, remains_at, slot_at}
 use Rattle.leases.specs.Asked.{HasOperatorAt}
 use Rattle.leases.specs.Turns.{IsOut}
@@ -96,7 +98,7 @@ without_turn e n = record e { leases = others n e.leases }
 -- A QUERY RUNS NO MORE: its turns end, its windows and slots leave, and nothing else is changed
 pub record Stops (n : ℕ) (old new : EngineState) : Type 0 where
   pub leases : new.leases.items ≡ filter (λ t. not (t.node.query == n)) old.leases.items
-  pub readers : new.readers.items ≡ filter (λ r. not (r.query == n)) old.readers.items
+  pub readers : new.readers ≡ filter (λ r. not (r.query == n)) old.readers
   pub slots : new.slots ≡ without_query n old.slots
   pub rest : new ≡ record old { leases = new.leases; readers = new.readers; slots = new.slots }
 
@@ -104,13 +106,13 @@ pub record Stops (n : ℕ) (old new : EngineState) : Type 0 where
 -- as it was, its windows are listed no more, and no turn goes out
 pub record Forgets (n : ℕ) (old new : EngineState) : Type 0 where
   pub undropped : new.undropped ≡ old.undropped
-  pub readers : new.readers.items ≡ filter (λ r. not (r.query == n)) old.readers.items
+  pub readers : new.readers ≡ filter (λ r. not (r.query == n)) old.readers
   pub leases : (t : Turn) → IsIn new.leases.items t → IsIn old.leases.items t
 
 -- what is kept of undropped queries and the readers are as they were, and no turn goes out
 pub record GivesNothing (old new : EngineState) : Type 0 where
   pub undropped : new.undropped ≡ old.undropped
-  pub readers : new.readers.items ≡ old.readers.items
+  pub readers : new.readers ≡ old.readers
   pub leases : (t : Turn) → IsIn new.leases.items t → IsIn old.leases.items t
 
 -- SLOTS THAT ARE TOLD ANEW

@@ -1,7 +1,7 @@
 -- What the calls of an engine ask before they look up an operator.
 use Rattle.std.specs.Prelude.{ℕ, ◌≡◌, ◌<◌, Some, length}
 use Rattle.reference.specs.Machine.{Registered}
-use Rattle.laws_queries.specs.Queries.{PlainQuery, log_at}
+use Rattle.laws_queries.specs.Plain.{PlainQuery, log_at}
 use Rattle.query_runtime.specs.Turns.{HasOperator, log_of}
 use Rattle.laws_engine.specs.Engines.{PlainEngine, Running, query_at, remains_at}
 

@@ -5,12 +5,12 @@ use Rattle.std.specs.Prelude.{Result, Ok, Err}
 use Rattle.std.specs.List.{AllByRecursion}
 use Rattle.op_queue.specs.Items.{entries_of}
 use Rattle.operators.specs.Inboxes.{cut_of}
-use Rattle.operators.specs.Operators.{inbox_of}
+use Rattle.operators.specs.Ready.{inbox_of}
 use Rattle.reference.specs.Machine.{Registered}
 use Rattle.reference.specs.World.{drain_fault}
 use Rattle.reference.specs.declared.fault.Fault.{Fault}
 use Rattle.reference.specs.declared.fault.Fault.TheVariants.{BadLimit, OutOfMemory, TooManyLeases}
-use Rattle.laws_queries.specs.Queries.{PlainQuery, log_at, operator_at}
+use Rattle.laws_queries.specs.Plain.{PlainQuery, log_at, operator_at}
 use Rattle.laws_engine.specs.Calls.{leased}
 use Rattle.laws_engine.specs.Engines.{Lease, PlainEngine}
 use Rattle.laws_engine.specs.Histories.{Finishes, IsCallStep}

@@ -1,6 +1,7 @@
 -- What is kept of a stream, and how the rows that stay are found.
-use Rattle.std.specs.Prelude.{ℕ, ◌≡◌, ◌-◌, ◌<◌, ◌≤◌, Bool, Option, None, Some, Result, Ok, Err}
-use Rattle.std.specs.Prelude.{List, [], length, map, max, slice_get, ⊤}
+use Rattle.std.specs.Prelude.{ℕ, ◌≡◌, ◌+◌, ◌-◌, ◌*◌, ◌^◌, ◌<◌, ◌≤◌, Bool, Option, None, Some}
+use Rattle.std.specs.Prelude.{Result, Ok, Err, List, [], length, map, max, min, slice_get, ⊤}
+use Rattle.std.specs.List.{sum_by}
 use Rattle.std.specs.Option.{option_map_or}
 use Rattle.values.specs.Row.{Row}
 use Rattle.values.specs.Window.{Element}
@@ -12,7 +13,7 @@ use Rattle.op_queue.specs.Logs.{Closed}
 use Rattle.stream_store.specs.Closing.{closed_of}
 use Rattle.stream_store.specs.declared.starts.Start.{Start}
 use Rattle.needed_rows.specs.Columns.{IsRegular}
-use Rattle.laws_dataflow.specs.Plans.{below_root}
+use Rattle.laws_dataflow.specs.Roots.{below_root}
 use Rattle.laws_engine.specs.Engines.{Broken, Dropped, PlainEngine, PlainRemains, Running}
 use Rattle.laws_engine.specs.Engines.{answers_in, next_of}
 use Rattle.laws_engine.specs.Openings.{marks_by}
@@ -27,6 +28,19 @@ use Rattle.leases.specs.declared.state.forget.KeptRows.{KeptRows}
 abbrev pub kept_at : Machine → ℕ → Result ℕ Fault
 kept_at m n = option_map_or (λ (s : Stream). Ok (length s.elements)) (slice_get m.streams n)
     (Err UnknownStream)
+
+-- a count, as far as the code counts: at most 2^64 - 1
+abbrev pub counted : ℕ → ℕ
+counted n = min n (2 ^ 64 - 1)
+
+-- what a forgetting walks over: the rows of all streams, and the queries that were ever registered
+abbrev pub walked_in : PlainEngine → ℕ
+walked_in e =
+    length e.machine.queries + sum_by (λ (s : Stream). length s.elements) e.machine.streams
+
+-- the most that may be stored before it pays to forget, after a forgetting that left so much
+abbrev pub most_after : ℕ → ℕ
+most_after left = left * 2 + 1024
 
 -- which elements of the stream of a number some running query needs
 abbrev pub needs_in : PlainEngine → ℕ → Element → Bool

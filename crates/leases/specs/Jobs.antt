@@ -3,10 +3,11 @@ use Rattle.std.specs.Prelude.{ℕ, ◌≡◌, ◌≢◌, ◌+◌, ◌*◌, ◌<�
 use Rattle.std.specs.Prelude.{map, set, slice_get, slice_index_or}
 use Rattle.std.specs.List.{AllByRecursion}
 use Rattle.reference.specs.Machine.{Registered, Stream}
-use Rattle.laws_queries.specs.Queries.{PlainQuery}
+use Rattle.laws_queries.specs.Plain.{PlainQuery}
 use Rattle.laws_queries.specs.Registrations.{HaveColumnNames}
 use Rattle.laws_engine.specs.Bounds.{HaveFewClosed}
-use Rattle.laws_engine.specs.Engines.{Dropped, GoodEngine, PlainEngine, PlainRemains, Running}
+use Rattle.laws_engine.specs.Engines.{Dropped, PlainEngine, PlainRemains, Running}
+use Rattle.laws_engine.specs.Good.{GoodEngine}
 use Rattle.laws_engine.specs.Engines.{query_at, remains_at}
 use Rattle.leases.specs.Alone.{HaveRunOwn, MayRunAlone, OwnStep, one_was_less_own}
 use Rattle.leases.specs.Passing.{AreSlotsOf}
@@ -118,7 +119,7 @@ out_of j = (j.query, remains_of j.remains)
 pub record IsBare (e : PlainEngine) (old new : EngineState) : Type 0 where
   pub is : engine_in new ≡ record e { queries = (engine_in new).queries }
   pub undropped : new.undropped ≡ old.undropped
-  pub readers : new.readers.items ≡ old.readers.items
+  pub readers : new.readers ≡ old.readers
   pub leases : new.leases.items ≡ old.leases.items
 
 -- LENT: the jobs have the queries of the state as it was
@@ -152,7 +153,7 @@ pub record AreOut (e : PlainEngine) (rows : ℕ) (js : List Job) (s : EngineStat
   pub gone : map (λ q. q.is_dropped) e.machine.queries ≡ map is_gone e.queries
   pub columns : HaveColumnNames e.machine
   pub closed : HaveFewClosed e.machine
-  pub readers : s.readers.items ≡ readers_of e
+  pub readers : s.readers ≡ readers_of e
   pub outs : List (ℕ × PlainRemains)
   pub placed : placed outs (engine_in s).queries ≡ e.queries
   pub apart : HaveOwnQueries js

@@ -2,7 +2,7 @@
 use Rattle.std.specs.Prelude.{ℕ, ◌≡◌}
 use Rattle.turn.specs.Nodes.{PlainNode}
 use Rattle.turn.specs.declared.turns.Turn.{Turn}
-use Rattle.laws_queries.specs.Queries.{PlainQuery, operator_at}
+use Rattle.laws_queries.specs.Plain.{PlainQuery, operator_at}
 use Rattle.query_runtime.specs.Turns.{CanLease, HasOperator, IsLeased, log_of}
 use Rattle.run_queue.specs.declared.slots.Slot.{Slot}
 use Rattle.laws_engine.specs.Engines.{PlainEngine, Running, remains_at}

@@ -1,4 +1,5 @@
 pub mod Views
+pub mod Lending
 pub mod Shown
 pub mod Asked
 pub mod Sound
@@ -11,6 +12,7 @@ pub mod Looks
 pub mod Registering
 pub mod Leasing
 pub mod Readers
+pub mod ByStream
 pub mod Told
 pub mod Runs
 pub mod Queues

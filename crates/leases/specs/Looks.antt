@@ -1,18 +1,24 @@
 -- What clients see of a query that was not dropped.
 use Rattle.std.specs.Prelude.{ℕ, ◌≡◌, ◌++◌, suc, Bool, true, false, cond, None, Some, List, [], ◌∷◌}
-use Rattle.std.specs.Prelude.{length, map, Result, Ok, Err}
+use Rattle.std.specs.Prelude.{length, map, Result, Ok, Err, IfOk}
 use Rattle.column.specs.declared.batch.Side.TheVariants.{Left, Right}
 use Rattle.op_queue.specs.Logs.{Closed}
-use Rattle.operators.specs.Operators.{waiting}
+use Rattle.operators.specs.Ready.{waiting}
 use Rattle.plan.specs.Nodes as plan
 use Rattle.reference.specs.Commands.{Drop, first_fault}
+use Rattle.reference.specs.Looks.{Look, Seen, SeesAt, SeesFound, answers, look_at, peek_rows}
+use Rattle.reference.specs.Looks.{show_plan, show_status, status}
 use Rattle.reference.specs.Machine.{Machine, Registered}
 use Rattle.reference.specs.Status.{QueryStatus, Status, query_status, stream_status}
+use Rattle.reference.specs.World.{query_named}
+use Rattle.reference.specs.World as world
 use Rattle.reference.specs.declared.fault.Fault.{Fault}
 use Rattle.reference.specs.declared.fault.Fault.TheVariants as fault
-use Rattle.laws_queries.specs.Queries.{PlainQuery, log_at, operator_at}
+use Rattle.laws_queries.specs.Plain.{PlainQuery, log_at, operator_at}
 use Rattle.laws_engine.specs.Engines.{Broken, Dropped, PlainEngine, PlainRemains, Running}
-use Rattle.laws_engine.specs.Engines.{answers_in, query_at, remains_at, upto_in}
+use Rattle.laws_engine.specs.Engines.{answers_in, query_at, remains_at, upto_in, world_of}
+use Rattle.laws_engine.specs.Promises.{AreCompleteUpto}
+use Rattle.leases.specs.Takes.{Peeks}
 
 -- HOW MANY ANSWERS WAIT
 abbrev pub WaitsAt : PlainEngine → ℕ → Result ℕ Fault → Type 0
@@ -44,7 +50,7 @@ noughts_of (node ∷ nodes) = queues_of node 0 0 ++ noughts_of nodes
 
 abbrev pub lengths_in : Machine → Registered → PlainRemains → List ℕ
 lengths_in m q (Running p) = lengths_from (log_at m q) p 0 q.nodes
-lengths_in m q (Broken answers upto) = noughts_of q.nodes
+lengths_in m q (Broken rows upto) = noughts_of q.nodes
 lengths_in m q Dropped = []
 
 -- what a look at them answers
@@ -60,7 +66,7 @@ IsPending view e n (Err f) = first_fault e.machine (Drop n) ≡ Some f
 -- running out of memory broke it
 abbrev pub is_broken : PlainRemains → Bool
 is_broken (Running p) = false
-is_broken (Broken answers upto) = true
+is_broken (Broken rows upto) = true
 is_broken Dropped = false
 
 -- one that was not dropped, with what is left of it
@@ -79,3 +85,14 @@ status_in_engine e = record {
   queries = queries_in e.machine.queries e.queries;
   streams = map stream_status e.machine.streams;
 }
+
+-- WHAT A LOOK SHOWS OF AN ENGINE, whole or not
+abbrev pub Shows : PlainEngine → Look → Result Seen Fault → Type 0
+Shows e (peek_rows name limit) result =
+    SeesAt (λ n. SeesFound answers (Peeks (λ rows. rows) e n limit))
+    (query_named (world_of e) name) result
+Shows e (show_plan name) result =
+    world.Looks (λ seen. seen) (look_at (world_of e) (show_plan name)) result
+Shows e show_status result =
+    SeesFound status (λ found. IfOk found (λ s. s ≡ status_in_engine e)) result
+    × AreCompleteUpto e

@@ -7,11 +7,11 @@ use Rattle.column.specs.declared.batch.Side.{Side}
 use Rattle.column.specs.declared.batch.Side.TheVariants.{Left, Right}
 use Rattle.op_queue.specs.Entries.{Entry}
 use Rattle.op_queue.specs.Logs.{span_entries}
-use Rattle.operators.specs.Operators.{waiting}
+use Rattle.operators.specs.Ready.{waiting}
 use Rattle.plan.specs.Nodes as plan
 use Rattle.reference.specs.Machine.{Machine, Registered, Stream}
-use Rattle.stream_store.specs.Closing.{closing_of}
-use Rattle.laws_queries.specs.Queries.{log_at, node_at, operator_at, place_of}
+use Rattle.stream_store.specs.Gains.{closing_of}
+use Rattle.laws_queries.specs.Plain.{log_at, node_at, operator_at, place_of}
 use Rattle.laws_engine.specs.Engines.{Broken, Dropped, PlainEngine, PlainRemains, Running}
 use Rattle.laws_engine.specs.Engines.{answers_in, query_at, remains_at}
 

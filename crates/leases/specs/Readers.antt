@@ -4,14 +4,15 @@ use Rattle.std.specs.Prelude.{Option, Some, None, List, [], ◌∷◌, ◌++◌,
 use Rattle.std.specs.Option.{option_to_list}
 use Rattle.column.specs.declared.batch.Side.{Side}
 use Rattle.plan.specs.Nodes as plan
-use Rattle.operators.specs.Operators.{ready}
+use Rattle.operators.specs.Ready.{ready}
 use Rattle.reference.specs.Machine.{Registered, Stream}
-use Rattle.laws_queries.specs.Queries.{operator_at, place_of}
+use Rattle.laws_queries.specs.Plain.{operator_at, place_of}
 use Rattle.query_runtime.specs.Turns.{log_of}
-use Rattle.run_queue.specs.Slots.{changed}
+use Rattle.run_queue.specs.Changes.{changed}
 use Rattle.run_queue.specs.declared.slots.Slot.{Slot}
 use Rattle.laws_engine.specs.Engines.{Broken, Dropped, PlainEngine, PlainRemains, Running, next_at}
-use Rattle.laws_engine.specs.Engines.{query_at, remains_at, slot_of}
+use Rattle.laws_engine.specs.Engines.{query_at, remains_at}
+use Rattle.laws_engine.specs.Good.{slot_of}
 use Rattle.leases.specs.declared.reader.WindowReader.{WindowReader}
 use Rattle.leases.specs.declared.state.EngineState.{EngineState}
 
@@ -62,7 +63,7 @@ readers_from n (q ∷ qs) (b ∷ bs) =
 abbrev pub readers_of : PlainEngine → List WindowReader
 readers_of e = readers_from 0 e.machine.queries (map runs e.queries)
 
--- THE SLOTS of the readers of the stream s that have nothing to take
+-- THE SLOTS of readers that have nothing to take
 abbrev pub is_idle_in : List Stream → ℕ → PlainRemains → Bool
 is_idle_in streams k (Running p) =
     nat_lt k (length p.operators)
@@ -76,10 +77,9 @@ is_idle_at e n k = is_idle_in e.machine.streams k (remains_at e n)
 abbrev pub idle_slot : PlainEngine → ℕ → ℕ → List Slot
 idle_slot e n k = cond (is_idle_at e n k) (option_to_list (slot_of e n k)) []
 
-abbrev pub idle_slots : PlainEngine → ℕ → List WindowReader → List Slot
-idle_slots e s [] = []
-idle_slots e s (r ∷ rs) = cond (r.stream == s) (idle_slot e r.query r.operator) []
-    ++ idle_slots e s rs
+abbrev pub idle_slots : PlainEngine → List WindowReader → List Slot
+idle_slots e [] = []
+idle_slots e (r ∷ rs) = idle_slot e r.query r.operator ++ idle_slots e rs
 
 -- WHAT AN OPERATOR MAY TAKE, by its number
 abbrev pub next_in : PlainEngine → ℕ → ℕ → Option Registered → PlainRemains → Option (Side × ℕ)

@@ -1,12 +1,13 @@
 -- What is made of a query before it is registered.
 use Rattle.std.specs.Prelude.{ℕ, ℤ, zero, suc, ◌≡◌, ◌<◌, Option, List, length, get_or}
 use Rattle.envelope.specs.Fraction.{Fraction, fraction}
-use Rattle.operators.specs.Operators.{ready}
+use Rattle.operators.specs.Ready.{ready}
 use Rattle.plan.specs.declared.operators.Plan.{Plan}
 use Rattle.reference.specs.Machine.{Registered, Stream}
-use Rattle.laws_queries.specs.Queries.{PlainQuery, operator_at}
+use Rattle.laws_queries.specs.Plain.{PlainQuery, operator_at}
 use Rattle.query_runtime.specs.Turns.{HasOperator, log_of}
-use Rattle.run_queue.specs.Slots.{put, slot}
+use Rattle.run_queue.specs.Slots.{slot}
+use Rattle.run_queue.specs.Changes.{put}
 use Rattle.run_queue.specs.declared.slots.Slot.{Slot}
 use Rattle.laws_engine.specs.Calls.{IsRegistration, registered}
 use Rattle.laws_engine.specs.Engines.{PlainEngine}

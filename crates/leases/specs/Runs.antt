@@ -3,7 +3,7 @@ use Rattle.std.specs.Prelude.{ℕ, ◌≡◌, List}
 use Rattle.operators.specs.Runs.{Stops}
 use Rattle.operators.specs.declared.runs.Refused.{Refused}
 use Rattle.reference.specs.Machine.{Stream}
-use Rattle.laws_queries.specs.Queries.{PlainQuery}
+use Rattle.laws_queries.specs.Plain.{PlainQuery}
 use Rattle.query_runtime.specs.Runs.{CanRun, HasRun, HasRunLess}
 use Rattle.query_runtime.specs.Turns.{HasOperator}
 use Rattle.run_queue.specs.declared.slots.Slot.{Slot}

@@ -3,7 +3,8 @@ use Rattle.std.specs.Prelude.{◌≡◌, ◌≤◌, Bool, true, false, length, m
 use Rattle.turn.specs.declared.turns.Turn.{Turn}
 use Rattle.laws_queries.specs.Registrations.{HaveColumnNames}
 use Rattle.laws_engine.specs.Bounds.{HaveFewClosed}
-use Rattle.laws_engine.specs.Engines.{Broken, Dropped, GoodEngine, IsIn, PlainRemains, Running}
+use Rattle.laws_engine.specs.Engines.{Broken, Dropped, PlainRemains, Running}
+use Rattle.laws_engine.specs.Good.{GoodEngine, IsIn}
 use Rattle.leases.specs.Readers.{readers_of}
 use Rattle.leases.specs.Shown.{engine_in}
 use Rattle.leases.specs.Undropped.{undropped_of}
@@ -30,4 +31,4 @@ pub record IsSound (s : EngineState) : Type 0 where
       ≡ map is_gone (engine_in s).queries
   pub columns : HaveColumnNames (engine_in s).machine
   pub closed : HaveFewClosed (engine_in s).machine
-  pub readers : s.readers.items ≡ readers_of (engine_in s)
+  pub readers : s.readers ≡ readers_of (engine_in s)

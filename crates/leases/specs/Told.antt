@@ -4,7 +4,7 @@ use Rattle.std.specs.Option.{option_map, option_to_list}
 use Rattle.std.specs.Ordering.{is_gt}
 use Rattle.column.specs.declared.batch.Side.{Side}
 use Rattle.envelope.specs.Fraction.{fraction_cmp}
-use Rattle.run_queue.specs.Slots.{goes_on, with_next}
+use Rattle.run_queue.specs.Changes.{goes_on, with_next}
 use Rattle.run_queue.specs.declared.slots.Slot.{Slot}
 use Rattle.laws_engine.specs.Engines.{PlainEngine}
 use Rattle.leases.specs.Applied.{BothStand, MayTell}

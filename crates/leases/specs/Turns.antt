@@ -7,18 +7,19 @@ use Rattle.turn.specs.Turns.{Fits, outs_in}
 use Rattle.turn.specs.declared.parts.Parts.{Parts}
 use Rattle.turn.specs.declared.turns.Turn.{Turn}
 use Rattle.operators.specs.Inboxes.{cut_of}
-use Rattle.operators.specs.Operators.{inbox_of, ready}
+use Rattle.operators.specs.Ready.{inbox_of, ready}
 use Rattle.reference.specs.Machine.{Registered}
 use Rattle.reference.specs.declared.fault.Fault.{Fault}
 use Rattle.reference.specs.declared.fault.Fault.TheVariants.{BadLimit, OutOfMemory, Stranger}
 use Rattle.reference.specs.declared.fault.Fault.TheVariants.{TooManyLeases, UnknownLease}
 use Rattle.reference.specs.declared.limits.TheConstants.{MAX_TURN}
-use Rattle.laws_queries.specs.Queries.{PlainQuery, log_at, operator_at}
+use Rattle.laws_queries.specs.Plain.{PlainQuery, log_at, operator_at}
 use Rattle.query_runtime.specs.Turns.{HasBatches, HasPut}
 use Rattle.run_queue.specs.Slots as slots
 use Rattle.run_queue.specs.declared.slots.Slot.{Slot}
 use Rattle.laws_engine.specs.Calls.{IsLeasable, IsOf, abandoned, broken, leased}
-use Rattle.laws_engine.specs.Engines.{IsIn, Lease, PlainEngine}
+use Rattle.laws_engine.specs.Engines.{Lease, PlainEngine}
+use Rattle.laws_engine.specs.Good.{IsIn}
 use Rattle.laws_engine.specs.Histories.{ComesBack}
 use Rattle.laws_engine.specs.Promises.{IsOfSteepest}
 use Rattle.leases.specs.declared.leased.Leased.{Leased}

@@ -1,7 +1,7 @@
 -- What an engine keeps of the queries that were not dropped: their
 -- names, and the row limits of those of three and four sources.
 use Rattle.std.specs.Prelude.{ℕ, suc, ◌+◌, ◌==◌, ◌&&◌, not, cond, fold, min, nat_lt, Option, List}
-use Rattle.std.specs.Prelude.{[], ◌∷◌, ◌++◌, length, map}
+use Rattle.std.specs.Prelude.{Some, [], ◌∷◌, ◌++◌, length, map}
 use Rattle.reference.specs.Commands.{rows_of_each}
 use Rattle.reference.specs.Machine.{Place, Registered}
 use Rattle.reference.specs.Named.{name_of_registered}
@@ -35,6 +35,13 @@ limits_from n (q ∷ qs) = limits_in n q ++ limits_from (suc n) qs
 -- WHAT THE ENGINE KEEPS of the machine's queries
 abbrev pub undropped_of : List Registered → UndroppedQueries
 undropped_of qs = record { names = map name_of_registered qs; limits = limits_from 0 qs }
+
+-- with the query n, which has this name
+abbrev pub with_name : UndroppedQueries → List ℕ → ℕ → Registered → UndroppedQueries
+with_name u name n q = record {
+  names = u.names ++ Some name ∷ [];
+  limits = u.limits ++ limits_in n q;
+}
 
 -- the least limit of the stream of a number, and no more than any stream may have
 abbrev pub tightened : ℕ → ℕ → RowLimit → ℕ

@@ -6,7 +6,7 @@ use Rattle.turn.specs.declared.turns.Turn.{Turn}
 use Rattle.plan.specs.Views.{nodes_of}
 use Rattle.reference.specs.Machine as machine
 use Rattle.reference.specs.Machine.{Registered, Stream, empty}
-use Rattle.laws_queries.specs.Queries.{PlainQuery, operator_at}
+use Rattle.laws_queries.specs.Plain.{PlainQuery, operator_at}
 use Rattle.run_queue.specs.declared.slots.Slot.{Slot}
 use Rattle.laws_engine.specs.Engines.{Broken, Dropped, Lease, PlainEngine, PlainRemains, Running}
 use Rattle.laws_engine.specs.Engines.{answers_in, remains_at}

@@ -8,6 +8,7 @@ mod opening;
 mod pace;
 mod reach;
 mod reader;
+mod readers;
 mod registered;
 mod remains;
 mod state;

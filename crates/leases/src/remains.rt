@@ -1,7 +1,8 @@
 //! Keeps what is left of a registered query.
+ghost use Rattle.std.specs.Borrow.{sem};
 ghost use Rattle.std.specs.Prelude.{◌≡◌, IfOk};
 ghost use Rattle.laws_engine.specs.Engines.{Broken, Running, answers_in};
-ghost use Rattle.laws_queries.specs.Queries.{PlainQuery};
+ghost use Rattle.laws_queries.specs.Plain.{PlainQuery};
 ghost use Rattle.leases.specs.Looks.{is_broken};
 ghost use Rattle.leases.specs.Readers.{runs};
 ghost use Rattle.leases.specs.Views.{remains_of, waiting_in};
@@ -24,6 +25,20 @@ pub(crate) enum Remains {
 }
 
 impl Remains {
+    ghost use Rattle.leases.specs.Lending.{LendsRunning};
+
+    /// Returns the query, which runs, to be changed.
+    pub(crate) fn running_mut(&mut self) -> &mut RunningQuery
+        requires { (p : PlainQuery) × (remains_of self.old ≡ Running p) }
+        ensures* writes_back { sem 𝓛 (LendsRunning self.entry result) }
+        ensures value { remains_of self.old ≡ Running result.now }
+    {
+        match self {
+            Remains::Running(query) => query,
+            _ => unreachable!(),
+        }
+    }
+
     /// Counts the waiting answers; `None` if the query was dropped.
     pub(crate) fn waiting(&self) -> Option<usize>
         ensures { result ≡ waiting_in (remains_of self.now) }

@@ -17,7 +17,7 @@ mod shares;
 mod status;
 mod takes;
 
-use crate::reader::WindowReader;
+use crate::readers::Readers;
 use crate::registered::Registration;
 use crate::remains::Remains;
 use crate::undropped::Undropped;
@@ -40,9 +40,8 @@ pub(crate) struct EngineState {
     registered: Vec<Registration>,
     /// Holds what is left of each query, by number: as many as were registered.
     remains: Vec<Remains>,
-    /// Lists the windows of the running queries, each once, by the queries' numbers and then by the
-    /// operators'.
-    readers: Vec<WindowReader>,
+    /// Lists the windows of the running queries, by query and by stream.
+    readers: Readers,
     /// Holds copies of the turns that are out, at most `MAX_LEASES`, in the order in which they
     /// went.
     pub(crate) leases: Vec<Turn>,

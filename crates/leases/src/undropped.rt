@@ -3,7 +3,7 @@ ghost use Rattle.std.specs.Prelude.{◌≡◌, ◌<◌, ◌≤◌, ◌^◌, ◌+
 ghost use Rattle.std.specs.Prelude.{OnOk, Some, filter, length, map, not, position, set, slice_get};
 ghost use Rattle.std.specs.Vec.{vec_capacity, vec_len};
 ghost use Rattle.name_table.specs.Names.{bears};
-ghost use Rattle.leases.specs.Undropped.{least, limit_at, limits_in, tightened};
+ghost use Rattle.leases.specs.Undropped.{least, limit_at, limits_in, tightened, with_name};
 ghost use Rattle.leases.specs.Views.{place_of, query_of};
 
 use crate::registered::{Registration, SourcePlace};
@@ -73,10 +73,7 @@ impl Undropped {
         requires fresh { position (bears name.now) self.old.names ≡ None }
         requires room { length self.old.names < 2 ^ 63 }
         ensures ok { OnOk result (self.new
-            ≡ record {
-              names = self.old.names ++ Some name.now ∷ [];
-              limits = self.old.limits ++ limits_in number (query_of query.now);
-            }) }
+            ≡ with_name self.old name.now number (query_of query.now)) }
         ensures err { OnErr result (self.new ≡ self.old) }
     {
         self.limits.reserve(query.places.len())?;

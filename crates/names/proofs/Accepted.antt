@@ -1,5 +1,5 @@
 -- What is true of a query without a fault.
-use Rattle.std.proofs.Common.{◌≡◌, ℕ, zero, suc, ◌+◌, ◌*◌, ◌<◌, ◌≤◌, Bool, true, false, cond, ◌&&◌, ◌||◌, nat_lt, nat_le, Option, Some, None, List, [], ◌∷◌, ◌++◌, map, flat_map, length, sum, slice_get, option_and_then, refl, sym, ap, ◌∙◌, arith, length-append, All as Each'}
+use Rattle.std.proofs.Common.{◌≡◌, ℕ, zero, suc, ◌+◌, ◌*◌, ◌<◌, ◌≤◌, Bool, true, false, cond, ◌&&◌, ◌||◌, nat_lt, nat_le, Option, Some, None, List, [], ◌∷◌, ◌++◌, map, flat_map, length, sum, slice_get, option_and_then, refl, sym, ap, ◌∙◌, arith, length-append}
 use Rattle.std.specs.List.{list_any, list_all, range_with_len, position_or_len, AllByRecursion}
 use Rattle.std.specs.Option.{is_none, unwrap_or, option_map_or}
 use Rattle.std.specs.Str.{bytes_eq}
@@ -16,9 +16,8 @@ use Rattle.values.specs.Resolved.{column_of, columns_of, item_of, items_of, wind
 use Rattle.values.specs.declared.resolved.Shape.{Shape}
 use Rattle.values.specs.declared.resolved.Shape.TheVariants.{Listed, Grouped}
 use Rattle.values.specs.declared.resolved.Window.{Window}
-use Rattle.values.specs.declared.resolved.Window.TheVariants.{Range, RangeSlide, Unbounded, LastRows}
+use Rattle.values.specs.declared.resolved.Window.TheVariants.{Instants, LastRows}
 use Rattle.cql_reader.specs.Query as syntax
-use Rattle.cql_reader.specs.WellFormed.{IsGoodWindow}
 use Rattle.names.specs.Catalog.{Stream, number_in, columns_in}
 use Rattle.names.specs.Matches as matches
 use Rattle.names.specs.Matches.{Table, table_of, tables, allows, places, columns_at, matches_in, first_column, place_in}
@@ -26,7 +25,7 @@ use Rattle.names.specs.Resolved as spec
 use Rattle.names.specs.Resolved.{all_columns, named_by, entry_list, is_grouped, listed_columns, windows_of, streams}
 use Rattle.names.specs.Faults.{partition_of, partition_matches, all_matches, references_of_where, is_missing, is_many, has_repeat, lacks_key, is_ungrouped, is_wide, first_fault}
 use Rattle.names.specs.Split.{all_conjuncts}
-use Rattle.names.specs.Sound.{has_narrow_rows, can_slide, all_slide, is_within, all_within}
+use Rattle.names.specs.Sound.{has_narrow_rows, is_within, all_within}
 use Rattle.names.proofs.Lists.{any_append}
 use Rattle.names.proofs.Tables.{first_of_tests}
 
@@ -127,30 +126,6 @@ narrow (Grouped by listed) ts q e items group w =
 
 -- WINDOWS
 
-slide : (w : Window) (t : Table) (v : syntax.WrittenWindow) → IsGoodWindow v → window_of w ≡ spec.window_of t v → can_slide w ≡ true
-slide (Range n) t v g h = refl
-slide (RangeSlide n l) t syntax.Now g h = absurd (cc)
-slide (RangeSlide n l) t (syntax.Range m) g h = absurd (cc)
-slide (RangeSlide n l) t (syntax.RangeSlide m k) g h =
-    let step : l ≡ k = cc in
-    lt-ltb 0 l (omega (arith, step, g.1.0))
-slide (RangeSlide n l) t syntax.Unbounded g h = absurd (cc)
-slide (RangeSlide n l) t (syntax.Rows m) g h = absurd (cc)
-slide (RangeSlide n l) t (syntax.Partition by m) g h = absurd (cc)
-slide Unbounded t v g h = refl
-slide (LastRows columns n) t v g h = refl
-
--- a window that slides does so by one instant or more, where those of the text do
-pub slides : (ws : List Window) (catalog : List Stream) (ss : List syntax.WrittenSource) → Each' (λ s. IsGoodWindow s.window) ss → map window_of ws ≡ windows_of catalog ss
-    → all_slide ws ≡ true
-slides [] catalog ss g h = refl
-slides (w ∷ ws) catalog [] g h = absurd (cc)
-slides (w ∷ ws) catalog (s ∷ ss) g h =
-    let here : window_of w ≡ spec.window_of (table_of catalog s) s.window = cc in
-    let rest : map window_of ws ≡ windows_of catalog ss = cc in
-    both_true (can_slide w) (all_slide ws) (slide w (table_of catalog s) s.window (g zero s (omega arith)) here)
-    (slides ws catalog ss (λ k d lt. g (suc k) d (omega (arith, lt))) rest)
-
 places_in : (n m : ℕ) (name : List ℕ) (xs : List (List ℕ)) → n + length xs ≤ m → AllByRecursion (λ k. k < m) (places n name xs)
 places_in n m name [] h = tt
 places_in n m name (x ∷ xs) h = kept (bytes_eq x name) (places_in (suc n) m name xs (omega (arith, h)))
@@ -185,13 +160,8 @@ places_here t (r ∷ rs) h =
 
 window_within : (w : Window) (t : Table) (v : syntax.WrittenWindow) → window_of w ≡ spec.window_of t v
     → list_any is_missing (map (λ r. matches_in 0 r t) (partition_of v)) ≡ false → nat_lt MAX_COLUMNS (length (partition_of v)) ≡ false → is_within w (length t.columns) ≡ true
-window_within (Range n) t v h m p = refl
-window_within (RangeSlide n l) t v h m p = refl
-window_within Unbounded t v h m p = refl
-window_within (LastRows columns n) t syntax.Now h m p = absurd (cc)
-window_within (LastRows columns n) t (syntax.Range instants) h m p = absurd (cc)
-window_within (LastRows columns n) t (syntax.RangeSlide instants step) h m p = absurd (cc)
-window_within (LastRows columns n) t syntax.Unbounded h m p = absurd (cc)
+window_within (Instants reach) t v h m p = refl
+window_within (LastRows columns n) t (syntax.Instants reach) h m p = absurd (cc)
 window_within (LastRows columns n) t (syntax.Rows rows) h m p =
     let is : columns.items ≡ [] = cc in
     rw is refl

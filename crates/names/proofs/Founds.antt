@@ -4,7 +4,7 @@ use Rattle.std.proofs.Common.{drop-cons}
 use Rattle.std.specs.Str.{bytes_eq}
 use Rattle.values.specs.Condition as conditions
 use Rattle.cql_reader.specs.Query as syntax
-use Rattle.cql_reader.specs.Views.{name_of}
+use Rattle.cql_reader.specs.Names.{name_of}
 use Rattle.cql_reader.specs.declared.name.Name.{Name}
 use Rattle.names.specs.Matches as spec
 use Rattle.names.specs.declared.matching.Table.{Table}

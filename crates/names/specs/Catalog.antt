@@ -1,3 +1,4 @@
+-- TO BELIEVE: the theorem rests on these definitions, and no proof can check them.
 -- The declared streams that a query may name.
 use Rattle.std.specs.Prelude.{ℕ, List, [], Option, position, slice_get, option_and_then}
 use Rattle.std.specs.Option.{option_map_or}

@@ -3,14 +3,14 @@ use Rattle.std.specs.Prelude.{◌≡◌, ℕ, false, Option, Some, None, pos, Li
 use Rattle.std.specs.Prelude.{replicate}
 use Rattle.values.specs.Condition as conditions
 use Rattle.values.specs.Condition.{Field}
+use Rattle.values.specs.declared.reach.Reach.TheVariants.{Last, Steps}
 use Rattle.values.specs.declared.resolved.Aggregate.TheVariants.{Sum}
 use Rattle.values.specs.declared.resolved.Compare.TheVariants.{Equals, Above}
 use Rattle.values.specs.Window as windows
 use Rattle.values.specs.Relation as relations
 use Rattle.values.specs.Answers.{Istream}
 use Rattle.cql_reader.specs.Query.{Reference, WrittenEntry, Column, CountAll, Of, Entries, All}
-use Rattle.cql_reader.specs.Query.{Each, Now}
-use Rattle.cql_reader.specs.Query.{RangeSlide, Partition, WrittenSource, Named, Number}
+use Rattle.cql_reader.specs.Query.{Each, Instants, Partition, WrittenSource, Named, Number}
 use Rattle.cql_reader.specs.Query.{WrittenCondition}
 use Rattle.cql_reader.specs.Query.{Compared, And, Or, Query}
 use Rattle.names.specs.Catalog.{Stream}
@@ -32,10 +32,10 @@ abbrev pub dotted : ℕ → ℕ → Reference
 dotted q n = record { qualifier = Some (name q); name = name n }
 
 abbrev pub of : ℕ → WrittenSource
-of n = record { stream = name n; window = Now; alias = None }
+of n = record { stream = name n; window = Instants (Last 0); alias = None }
 
 abbrev pub called : ℕ → ℕ → WrittenSource
-called n a = record { stream = name n; window = Now; alias = Some (name a) }
+called n a = record { stream = name n; window = Instants (Last 0); alias = Some (name a) }
 
 abbrev pub query : Entries → List WrittenSource → Option WrittenCondition → List Reference → Query
 query es ss c g = record {
@@ -102,13 +102,13 @@ own_source_alone : first_fault
 own_source_alone = refl
 
 partition_places : (resolved (query All (of 65 ∷ partitioned ∷ []) None []) declared).windows
-    ≡ windows.Range 0 ∷ windows.LastRows (0 ∷ []) 1 ∷ []
+    ≡ windows.Instants (Last 0) ∷ windows.LastRows (0 ∷ []) 1 ∷ []
 partition_places = refl
 
 -- From S [Range 5 Slide 2]
 sliding : (resolved (query All
-    (record { stream = name 83; window = RangeSlide 5 2; alias = None } ∷ []) None [])
-    declared).windows ≡ windows.RangeSlide 5 2 ∷ []
+    (record { stream = name 83; window = Instants (Steps 5 2); alias = None } ∷ []) None [])
+    declared).windows ≡ windows.Instants (Steps 5 2) ∷ []
 sliding = refl
 
 -- Select Istream(a, Count(*)) From S: the column is not grouped

@@ -1,3 +1,4 @@
+-- TO BELIEVE: the theorem rests on these definitions, and no proof can check them.
 -- The faults of a query's names, and the first of them.
 use Rattle.std.specs.Prelude.{ℕ, ◌-◌, ◌==◌, Bool, true, false, not, ◌&&◌, ◌||◌, nat_lt, Option}
 use Rattle.std.specs.Prelude.{Some, None, List, [], ◌∷◌, ◌++◌, map, length}
@@ -34,10 +35,7 @@ references_of_where (Some c) = references_of_condition c
 
 -- the columns of Partition By
 abbrev pub partition_of : syntax.WrittenWindow → List syntax.Reference
-partition_of syntax.Now = []
-partition_of (syntax.Range instants) = []
-partition_of (syntax.RangeSlide instants step) = []
-partition_of syntax.Unbounded = []
+partition_of (syntax.Instants reach) = []
 partition_of (syntax.Rows rows) = []
 partition_of (syntax.Partition by rows) = by
 

@@ -6,5 +6,6 @@ pub mod Faults
 pub mod FaultTexts
 pub mod Sound
 pub mod Views
+pub mod Names
 pub mod Told
 pub mod Examples

@@ -1,3 +1,4 @@
+-- TO BELIEVE: the theorem rests on these definitions, and no proof can check them.
 -- What a reference names: the columns that it matches in the sources of a query.
 use Rattle.std.specs.Prelude.{ℕ, suc, Bool, true, cond, Option, Some, None, List, [], ◌∷◌, ◌++◌}
 use Rattle.std.specs.Prelude.{map, unwrap_or}

@@ -1,9 +1,10 @@
+-- TO BELIEVE: the theorem rests on these definitions, and no proof can check them.
 -- The query that a text means over declared streams, for texts without a fault.
 use Rattle.std.specs.Prelude.{ℕ, suc, Bool, true, false, cond, ◌&&◌, ◌||◌, ◌==◌, List, [], ◌∷◌}
 use Rattle.std.specs.Prelude.{◌++◌, map, length, position, unwrap_or}
 use Rattle.std.specs.List.{list_any, flat_map, range_with_len}
 use Rattle.std.specs.Option.{option_map}
-use Rattle.values.specs.Window.{Window, Range, RangeSlide, Unbounded, LastRows}
+use Rattle.values.specs.Window.{Window, Instants, LastRows}
 use Rattle.values.specs.Condition.{SourceColumn, Operand, Field, Number, Condition, Compared, Not}
 use Rattle.values.specs.Condition.{And}
 use Rattle.values.specs.Condition.{Or}
@@ -15,10 +16,7 @@ use Rattle.names.specs.Matches.{Table, table_of, tables, column_of, place_in}
 
 -- the columns of Partition By are those of the window's own source
 abbrev pub window_of : Table → syntax.WrittenWindow → Window
-window_of t syntax.Now = Range 0
-window_of t (syntax.Range instants) = Range instants
-window_of t (syntax.RangeSlide instants step) = RangeSlide instants step
-window_of t syntax.Unbounded = Unbounded
+window_of t (syntax.Instants reach) = Instants reach
 window_of t (syntax.Rows rows) = LastRows [] rows
 window_of t (syntax.Partition by rows) = LastRows (map (place_in t) by) rows
 

@@ -5,8 +5,7 @@ use Rattle.values.specs.declared.TheConstants.{MAX_COLUMNS}
 use Rattle.values.specs.declared.resolved.Shape.{Shape}
 use Rattle.values.specs.declared.resolved.Shape.TheVariants.{Listed, Grouped}
 use Rattle.values.specs.declared.resolved.Window.{Window}
-use Rattle.values.specs.declared.resolved.Window.TheVariants.{Range, RangeSlide, Unbounded}
-use Rattle.values.specs.declared.resolved.Window.TheVariants.{LastRows}
+use Rattle.values.specs.declared.resolved.Window.TheVariants.{Instants, LastRows}
 
 -- the rows of its list and of Group By have at most MAX_COLUMNS values
 abbrev pub has_narrow_rows : Shape → Bool
@@ -14,21 +13,9 @@ has_narrow_rows (Listed columns) = nat_le (length columns.items) MAX_COLUMNS
 has_narrow_rows (Grouped by items) =
     nat_le (length by.items) MAX_COLUMNS && nat_le (length items.items) MAX_COLUMNS
 
--- a window slides by one instant or more
-abbrev pub can_slide : Window → Bool
-can_slide (Range n) = true
-can_slide (RangeSlide n l) = nat_lt 0 l
-can_slide Unbounded = true
-can_slide (LastRows columns n) = true
-
-abbrev pub all_slide : List Window → Bool
-all_slide windows = list_all can_slide windows
-
 -- the columns of Partition By are columns of a source so wide, and at most MAX_COLUMNS
 abbrev pub is_within : Window → ℕ → Bool
-is_within (Range n) width = true
-is_within (RangeSlide n l) width = true
-is_within Unbounded width = true
+is_within (Instants reach) width = true
 is_within (LastRows columns n) width =
     list_all (λ k. nat_lt k width) columns.items && nat_le (length columns.items) MAX_COLUMNS
 

@@ -11,8 +11,7 @@ use Rattle.values.specs.declared.resolved.SourceColumn.{SourceColumn}
 use Rattle.values.specs.declared.resolved.Condition.{Condition}
 use Rattle.values.specs.Resolved.{column_of, condition_of}
 use Rattle.cql_reader.specs.Query as syntax
-use Rattle.cql_reader.specs.Views.{name_of}
-use Rattle.cql_reader.specs.declared.name.Name.{Name}
+use Rattle.cql_reader.specs.Names.{name_of}
 use Rattle.names.specs.Catalog.{Stream}
 use Rattle.names.specs.Matches as spec
 use Rattle.names.specs.Resolved as meaning
@@ -24,9 +23,7 @@ use Rattle.names.specs.declared.matching.Found.{Found}
 use Rattle.names.specs.declared.matching.Found.TheVariants.{Missing, One, Many}
 use Rattle.names.specs.declared.split.SourceKey.{SourceKey}
 use Rattle.names.specs.declared.verdict.Verdict.{Verdict}
-
-abbrev pub names_of : List Name → List (List ℕ)
-names_of names = map name_of names
+use Rattle.names.specs.Names.{names_of}
 
 abbrev pub stream_of : Declared → Stream
 stream_of d = record { name = name_of d.name; columns = names_of d.columns.items }

@@ -2,6 +2,7 @@
 ghost use Rattle.std.specs.Prelude.{◌≡◌, [], ◌∷◌, map};
 ghost use Rattle.values.specs.Resolved.{column_of};
 ghost use Rattle.cql_reader.specs.Views as syntax;
+ghost use Rattle.cql_reader.specs.Names as spelled;
 ghost use Rattle.names.specs.Matches as spec;
 ghost use Rattle.names.specs.Views.{first_found, found_of, table_of, tables_of, merged};
 
@@ -60,7 +61,7 @@ impl Found {
 fn find_there(source: usize, place: usize, name: &Name, column: &Name) -> Found
     ensures { result
         ≡ found_of (spec.columns_at source
-        (spec.places place (syntax.name_of name.now) (syntax.name_of column.now ∷ []))) }
+        (spec.places place (spelled.name_of name.now) (spelled.name_of column.now ∷ []))) }
 {
     if column.as_bytes() == name.as_bytes() {
         Found::One(SourceColumn {
@@ -76,7 +77,7 @@ fn find_there(source: usize, place: usize, name: &Name, column: &Name) -> Found
 fn find_in(source: usize, name: &Name, columns: &[Name]) -> Found
     ensures { result
         ≡ found_of (spec.columns_at source
-        (spec.places 0 (syntax.name_of name.now) (map syntax.name_of columns.now))) }
+        (spec.places 0 (spelled.name_of name.now) (map spelled.name_of columns.now))) }
 {
     let mut found = Found::Missing;
     for i in 0..columns.len() {
@@ -87,7 +88,7 @@ fn find_in(source: usize, name: &Name, columns: &[Name]) -> Found
 
 /// Returns whether the qualifier, where there is one, is the name of the source.
 fn allows(qualifier: &Option<Name>, name: &Name) -> bool
-    ensures { result ≡ spec.allows (syntax.alias_of qualifier.now) (syntax.name_of name.now) }
+    ensures { result ≡ spec.allows (syntax.alias_of qualifier.now) (spelled.name_of name.now) }
 {
     match qualifier {
         None => true,

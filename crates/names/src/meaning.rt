@@ -5,10 +5,9 @@ ghost use Rattle.std.specs.List.{AllByRecursion};
 ghost use Rattle.std.specs.Option.{option_map};
 ghost use Rattle.values.specs.Resolved.{columns_of, where_of, resolved_of};
 ghost use Rattle.cql_reader.specs.Views.{query_of};
-ghost use Rattle.cql_reader.specs.WellFormed.{IsWellFormed};
 ghost use Rattle.names.specs.Faults.{first_fault};
 ghost use Rattle.names.specs.Resolved as spec;
-ghost use Rattle.names.specs.Sound.{has_narrow_rows, all_slide, all_within};
+ghost use Rattle.names.specs.Sound.{has_narrow_rows, all_within};
 ghost use Rattle.names.specs.Split.{all_conjuncts, own_of, join_keys_of, remaining};
 ghost use Rattle.names.specs.Told.{Told, Refuses};
 ghost use Rattle.names.specs.Matches as matches;
@@ -82,8 +81,6 @@ pub fn resolve(alloc: Global, query: &Query, catalog: &Catalog) -> Result<Named,
     ensures few { IfOk result (λ n. (most : ℕ)
         → AllByRecursion (λ s. length s.columns ≤ most) catalog.now
         → sum n.widths.items ≤ most * length query.now.sources.items) }
-    ensures slides { IfOk result (λ n. IsWellFormed (query_of query.now)
-        → all_slide n.meaning.windows.items ≡ true) }
     ensures within { IfOk result (λ n. all_within n.meaning.windows.items n.widths.items ≡ true) }
     ensures known { IfOk result (λ n.
         AllByRecursion (λ s. s < length catalog.now) n.streams.items) }

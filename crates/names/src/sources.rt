@@ -3,6 +3,7 @@ ghost use Rattle.std.specs.Prelude.{◌≡◌, IfOk, length, map, unwrap_or};
 ghost use Rattle.std.specs.List.{list_any};
 ghost use Rattle.std.specs.Option.{is_none};
 ghost use Rattle.cql_reader.specs.Views as syntax;
+ghost use Rattle.cql_reader.specs.Names as spelled;
 ghost use Rattle.values.specs.Resolved.{window_of};
 ghost use Rattle.names.specs.Catalog.{number_in};
 ghost use Rattle.names.specs.Matches as spec;
@@ -19,7 +20,7 @@ use values::Window;
 
 /// Returns the name of a source: its alias, otherwise its stream.
 pub(crate) fn name_of(source: &WrittenSource) -> Name
-    ensures { syntax.name_of result ≡ spec.name_of (syntax.source_of source.now) }
+    ensures { spelled.name_of result ≡ spec.name_of (syntax.source_of source.now) }
 {
     match source.alias {
         Some(alias) => alias,
@@ -107,12 +108,7 @@ fn window_of(
         ≡ meaning.window_of (table_of table.now) (syntax.window_of window.now)) }
 {
     match window {
-        cql_reader::WrittenWindow::Now => Ok(Window::Range(0)),
-        cql_reader::WrittenWindow::Range(instants) => Ok(Window::Range(*instants)),
-        cql_reader::WrittenWindow::RangeSlide(instants, step) => {
-            Ok(Window::RangeSlide(*instants, *step))
-        }
-        cql_reader::WrittenWindow::Unbounded => Ok(Window::Unbounded),
+        cql_reader::WrittenWindow::Instants(reach) => Ok(Window::Instants(*reach)),
         cql_reader::WrittenWindow::Rows(rows) => Ok(Window::LastRows(Vec::new(alloc), *rows)),
         cql_reader::WrittenWindow::Partition(by, rows) => Ok(Window::LastRows(
             places_of(alloc, table, by)?,

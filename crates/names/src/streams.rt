@@ -1,7 +1,7 @@
 //! Keeps the declared streams that a query may name.
 ghost use Rattle.std.specs.Prelude.{◌≡◌, [], ◌∷◌, ◌++◌, OnOk, OnErr, map, position};
 ghost use Rattle.std.specs.Str.{bytes_eq};
-ghost use Rattle.cql_reader.specs.Views.{name_of};
+ghost use Rattle.cql_reader.specs.Names.{name_of};
 ghost use Rattle.names.specs.Catalog.{number_in, columns_in};
 
 use cql_reader::Name;

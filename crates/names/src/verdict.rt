@@ -178,10 +178,7 @@ fn judge_window(table: &Table, window: &WrittenWindow) -> Verdict
 {
     match window {
         WrittenWindow::Partition(by, _) => judge_within(table, by),
-        WrittenWindow::Now => Verdict::good(),
-        WrittenWindow::Range(_) => Verdict::good(),
-        WrittenWindow::RangeSlide(_, _) => Verdict::good(),
-        WrittenWindow::Unbounded => Verdict::good(),
+        WrittenWindow::Instants(_) => Verdict::good(),
         WrittenWindow::Rows(_) => Verdict::good(),
     }
 }

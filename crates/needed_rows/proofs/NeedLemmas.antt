@@ -1,9 +1,12 @@
--- What each kind of window needs, by places.
-use Rattle.std.proofs.Common.{◌≡◌, ℕ, ℤ, suc, ◌+◌, ◌-◌, ◌*◌, ◌/◌, ◌<◌, ◌≤◌, Bool, true, false, min, max, ◌&&◌, ◌||◌, nat_le, nat_lt, Option, List, length, filter, get_or, refl, ap, sym, ◌∙◌, arith, le-leb, lt-ltb, le-ltb, leb-true, ⊎_elim}
+-- What a window needs, by places.
+use Rattle.std.proofs.Common.{◌≡◌, ℕ, ℤ, ◌+◌, ◌-◌, ◌<◌, ◌≤◌, Bool, true, false, max, ◌&&◌, ◌||◌, nat_le, nat_lt, Option, List, length, filter, get_or, refl, ap, sym, ◌∙◌, arith, le-leb, lt-ltb, le-ltb, leb-true, ⊎_elim}
 use Rattle.std.proofs.lemmas.Bool.{cases_lt, lt-leb}
 use Rattle.std.proofs.lemmas.Bool.Decides.{nat_tests}
-use Rattle.std.proofs.Math.Nat.{suc-mul}
-use Rattle.values.specs.Window.{Element, Window, Range, RangeSlide, Unbounded, LastRows, counts, count_later}
+use Rattle.values.specs.Moving as moving
+use Rattle.values.specs.Moving.{has}
+use Rattle.values.specs.Window.{Element, Window, Instants, LastRows, counts, count_later}
+use Rattle.values.specs.declared.reach.NeededInstants.{NeededInstants}
+use Rattle.values.specs.declared.reach.Reach.{Reach}
 use Rattle.values.proofs.Windows.{tally_is}
 use Rattle.op_queue.specs.Tables.{IsRising, element_at, elements_in}
 use Rattle.needed_rows.specs.Keys.{are_alike}
@@ -11,24 +14,6 @@ use Rattle.needed_rows.specs.Marks.{Sets, count_places, has_arrived, is_among_la
 use Rattle.needed_rows.specs.Needed.{is_needed_by}
 use Rattle.needed_rows.proofs.CountLemmas.{count_behind}
 use Rattle.needed_rows.proofs.MarkLemmas.{same_bool, sets_both, sets_same}
-
-range_numbers : (first t next n : ℕ) → nat_le (max first (next - 1 - n)) t ≡ (nat_le first t && (nat_le next t || (nat_le (next - 1 - n) t && nat_le t (next - 1))))
-range_numbers first t next n = grind (arith, nat_tests)
-
-all_numbers : (first t next : ℕ) → nat_le first t ≡ (nat_le first t && (nat_le next t || nat_le t (next - 1)))
-all_numbers first t next = grind (arith, nat_tests)
-
--- m is the multiple up to the mark, and what the next one shows begins at b
-slide_numbers : (first t next m n b : ℕ) → m ≤ next - 1 → first ≤ m
-    → (nat_le (max first (min next b)) t || (nat_le (max first (m - n)) t && nat_lt t (m + 1))) ≡ (nat_le first t && (nat_le next t || (((nat_le first m && nat_le (m - n) t) && nat_le t m) || nat_le b t)))
-slide_numbers first t next m n b h k = grind (arith, nat_tests)
-
-unmoved_numbers : (first t next m n b : ℕ) → m < first → nat_le (max first (min next b)) t ≡ (nat_le first t && (nat_le next t || (((nat_le first m && nat_le (m - n) t) && nat_le t m) || nat_le b t)))
-unmoved_numbers first t next m n b k = grind (arith, nat_tests)
-
-unless : (p a b c : Bool) → a ≡ (b && c) → (p && a) ≡ ((p && b) && c)
-unless true a b c h = h
-unless false a b c h = refl
 
 either_unless : (p a d b c : Bool) → (a || d) ≡ (b && c) → ((p && a) || (p && d)) ≡ ((p && b) && c)
 either_unless true a d b c h = h
@@ -41,20 +26,9 @@ module _ (instants numbers : List ℕ) (columns : List (List (Option ℤ))) (pla
   abbrev e : Element
   e = element_at instants numbers columns i
 
-  pub range_needs : (n : ℕ) → is_needed_by es (record { place = place; first = first; next = next; window = Range n }) e ≡ is_from instants numbers place (max first (next - 1 - n)) i
-  range_needs n = sym (unless (has_arrived numbers place i) _ _ _ (range_numbers first (get_or instants i 0) next n))
-
-  pub all_needs : is_needed_by es (record { place = place; first = first; next = next; window = Unbounded }) e ≡ is_from instants numbers place first i
-  all_needs = sym (unless (has_arrived numbers place i) _ _ _ (all_numbers first (get_or instants i 0) next))
-
-  pub slide_needs : (n l : ℕ) → (next - 1) / l * l ≤ next - 1 → first ≤ (next - 1) / l * l
-      → is_needed_by es (record { place = place; first = first; next = next; window = RangeSlide n l }) e
-      ≡ (is_from instants numbers place (max first (min next (((next - 1) / l + 1) * l - n))) i || is_between instants numbers place (max first ((next - 1) / l * l - n)) ((next - 1) / l * l + 1) i)
-  slide_needs n l h k = sym (either_unless (has_arrived numbers place i) _ _ _ _ (slide_numbers first (get_or instants i 0) next ((next - 1) / l * l) n (((next - 1) / l + 1) * l - n) h k))
-
-  pub unmoved_needs : (n l : ℕ) → (next - 1) / l * l < first
-      → is_needed_by es (record { place = place; first = first; next = next; window = RangeSlide n l }) e ≡ is_from instants numbers place (max first (min next (((next - 1) / l + 1) * l - n))) i
-  unmoved_needs n l k = sym (unless (has_arrived numbers place i) _ _ _ (unmoved_numbers first (get_or instants i 0) next ((next - 1) / l * l) n (((next - 1) / l + 1) * l - n) k))
+  pub reach_needs : (r : Reach) (n : NeededInstants) → ((t : ℕ) → has n t ≡ (nat_le first t && moving.needs first r next t))
+      → is_needed_by es (record { place = place; first = first; next = next; window = Instants r }) e ≡ (is_from instants numbers place n.since i || is_between instants numbers place n.low n.high i)
+  reach_needs r n h = sym (either_unless (has_arrived numbers place i) _ _ _ _ (h (get_or instants i 0)))
 
 -- LAST ROWS
 above_bool : (p f a k y : Bool) → ((p && f) || ((a && false) && (p && k))) ≡ ((p && f) && (true || y))
@@ -140,9 +114,6 @@ module _ (instants numbers : List ℕ) (columns : List (List (Option ℤ))) (pla
       ≡ (is_from instants numbers place (max first next) i || is_among_last (has_arrived numbers place) (are_alike chosen columns) count start end i)
   last_needs = sym (⊎_elim (λ (lt : get_or instants i 0 < next). earlier lt) (λ (ge : next ≤ get_or instants i 0). later ge) (cases_lt (get_or instants i 0) next))
 
-after_one : (m l q : ℕ) → m ≡ q * l → m + l ≡ (q + 1) * l
-after_one m l q e = let o : q + 1 ≡ suc q = omega arith in ap (λ x. x + l) e ∙ sym (ap (λ x. x * l) o ∙ suc-mul q l)
-
 -- WHAT IS MARKED is what is needed
 module _ (instants numbers : List ℕ) (columns : List (List (Option ℤ))) (place first next : ℕ) (old : List Bool) where
   abbrev Whole : List Element
@@ -151,51 +122,12 @@ module _ (instants numbers : List ℕ) (columns : List (List (Option ℤ))) (pla
   abbrev needs : Window → ℕ → Bool
   needs w i = is_needed_by Whole (record { place = place; first = first; next = next; window = w }) (element_at instants numbers columns i)
 
-  pub all_needed : (new : List Bool) → Sets (is_from instants numbers place first) old new → Sets (needs Unbounded) old new
-  all_needed new s = sets_same (is_from instants numbers place first) (needs Unbounded) old new s (λ i l. all_needs instants numbers columns place first next i)
-
-  pub range_needed : (n least : ℕ) (new : List Bool) → least ≡ max first (next - 1 - n) → Sets (is_from instants numbers place least) old new → Sets (needs (Range n)) old new
-  range_needed n least new e s = sets_same (is_from instants numbers place least) (needs (Range n)) old new s
-      (λ i l. range_needs instants numbers columns place first next i n ∙ ap (λ x. is_from instants numbers place x i) (sym e))
-
-  -- it does not move at 0
-  pub still_needed : (n l : ℕ) (new : List Bool) → l ≡ 0 → Sets (is_from instants numbers place first) old new → Sets (needs (RangeSlide n l)) old new
-  still_needed n l new z s = sets_same (is_from instants numbers place first) (needs (RangeSlide n l)) old new s (λ i u. ap (λ k. needs (RangeSlide n k) i) z ∙ none i)
-    where
-      none : (i : ℕ) → needs (RangeSlide n 0) i ≡ is_from instants numbers place first i
-      none i = here (has_arrived numbers place i) (nat_le first (get_or instants i 0)) (nat_le next (get_or instants i 0)) ((nat_le first ((next - 1) / 0 * 0) && nat_le ((next - 1) / 0 * 0 - n) (get_or instants i 0)) && nat_le (get_or instants i 0) ((next - 1) / 0 * 0))
-          (nat_le (((next - 1) / 0 + 1) * 0 - n) (get_or instants i 0)) (le-leb (((next - 1) / 0 + 1) * 0 - n) (get_or instants i 0) (omega arith))
-        where
-          here : (p f a b c : Bool) → c ≡ true → ((p && f) && (a || (b || c))) ≡ (p && f)
-          here p f a b c e = ap (λ x. (p && f) && (a || (b || x))) e ∙ last p f a b
-            where
-              last : (p f a b : Bool) → ((p && f) && (a || (b || true))) ≡ (p && f)
-              last true true true b = refl
-              last true true false true = refl
-              last true true false false = refl
-              last true false a b = refl
-              last false f a b = refl
-
-  pub slide_needed : (n l m least lower : ℕ) (mid new : List Bool) → m ≡ (next - 1) / l * l → m ≤ next - 1 → first ≤ m → least ≡ max first (min next (m + l - n)) → lower ≡ max first (m - n)
-      → Sets (is_from instants numbers place least) old mid → Sets (is_between instants numbers place lower (m + 1)) mid new → Sets (needs (RangeSlide n l)) old new
-  slide_needed n l m least lower mid new e u f el ew s t =
-      let b : m + l ≡ ((next - 1) / l + 1) * l = after_one m l ((next - 1) / l) e in
-      let el2 : least ≡ max first (min next (((next - 1) / l + 1) * l - n)) = el ∙ ap (λ x. max first (min next (x - n))) b in
-      let ew2 : lower ≡ max first ((next - 1) / l * l - n) = ew ∙ ap (λ x. max first (x - n)) e in
-      sets_same (λ i. is_from instants numbers place least i || is_between instants numbers place lower (m + 1) i) (needs (RangeSlide n l)) old new
-      (sets_both (is_from instants numbers place least) (is_between instants numbers place lower (m + 1)) old mid new s t)
-      (λ i v. slide_needs instants numbers columns place first next i n l (rw (← e) u) (rw (← e) f)
-      ∙ ap (λ x. is_from instants numbers place x i || is_between instants numbers place (max first ((next - 1) / l * l - n)) ((next - 1) / l * l + 1) i) (sym el2)
-      ∙ ap (λ x. is_from instants numbers place least i || is_between instants numbers place x ((next - 1) / l * l + 1) i) (sym ew2)
-      ∙ ap (λ x. is_from instants numbers place least i || is_between instants numbers place lower (x + 1) i) (sym e))
-
-  pub unmoved_needed : (n l m least : ℕ) (new : List Bool) → m ≡ (next - 1) / l * l → m < first → least ≡ max first (min next (m + l - n))
-      → Sets (is_from instants numbers place least) old new → Sets (needs (RangeSlide n l)) old new
-  unmoved_needed n l m least new e f el s =
-      let b : m + l ≡ ((next - 1) / l + 1) * l = after_one m l ((next - 1) / l) e in
-      let el2 : least ≡ max first (min next (((next - 1) / l + 1) * l - n)) = el ∙ ap (λ x. max first (min next (x - n))) b in
-      sets_same (is_from instants numbers place least) (needs (RangeSlide n l)) old new s
-      (λ i v. unmoved_needs instants numbers columns place first next i n l (rw (← e) f) ∙ ap (λ x. is_from instants numbers place x i) (sym el2))
+  pub reach_needed : (r : Reach) (n : NeededInstants) (mid new : List Bool) → ((t : ℕ) → has n t ≡ (nat_le first t && moving.needs first r next t))
+      → Sets (is_from instants numbers place n.since) old mid → Sets (is_between instants numbers place n.low n.high) mid new → Sets (needs (Instants r)) old new
+  reach_needed r n mid new h s t =
+      sets_same (λ i. is_from instants numbers place n.since i || is_between instants numbers place n.low n.high i) (needs (Instants r)) old new
+      (sets_both (is_from instants numbers place n.since) (is_between instants numbers place n.low n.high) old mid new s t)
+      (λ i v. reach_needs instants numbers columns place first next i r n h)
 
   pub last_needed : (chosen : List ℕ) (count least start end : ℕ) (mid new : List Bool)
       → IsRising instants 0 (length instants)

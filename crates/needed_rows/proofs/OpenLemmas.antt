@@ -4,7 +4,7 @@ use Rattle.std.specs.List.{list_any}
 use Rattle.std.specs.Option.{option_map_or}
 use Rattle.std.proofs.lemmas.Bool.{cases_lt, lt-leb}
 use Rattle.std.proofs.lemmas.Bool.Decides.{nat_tests}
-use Rattle.values.specs.Window.{Element, Window, Range, RangeSlide, Unbounded, LastRows, counts, count_later, input_of, is_later, same_in}
+use Rattle.values.specs.Window.{Element, Window, Instants, LastRows, counts, count_later, input_of, is_later, same_in}
 use Rattle.values.specs.Needs.{is_needed, still_shows}
 use Rattle.values.proofs.Windows.{tally, tally-append, tally_is}
 use Rattle.reference.specs.Machine.{Place, Registered, Stream, input_at}
@@ -150,9 +150,7 @@ not_in p f x y h = ap (λ b. (p && b) && x) h ∙ none p ∙ sym (ap (λ b. (p &
 
 needs_closed : (place first next until : ℕ) (w : Window) (es : List Element) (e : Element) → next ≤ max first until
     → is_needed_by es (record { place = place; first = first; next = next; window = w }) e ≡ is_needed_by (by_instant 0 until es) (record { place = place; first = first; next = next; window = w }) e
-needs_closed place first next until (Range n) es e h = refl
-needs_closed place first next until (RangeSlide n l) es e h = refl
-needs_closed place first next until Unbounded es e h = refl
+needs_closed place first next until (Instants r) es e h = refl
 needs_closed place first next until (LastRows columns n) es e h =
     ⊎_elim
     (λ (lt : e.instant < next). ⊎_elim

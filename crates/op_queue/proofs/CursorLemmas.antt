@@ -7,10 +7,12 @@ use Rattle.std.proofs.lemmas.List.{drop-drop, drop_at, drop-append-le, length-ma
 use Rattle.std.proofs.lemmas.List.Elements.{All-weaker}
 use Rattle.values.specs.Row.{Row}
 use Rattle.values.specs.Window.{Element}
-use Rattle.op_queue.specs.Cursors.{GoesOn, IsWithin, cursor_entries}
-use Rattle.op_queue.specs.Entries.{Entry, RowAt, TickAt}
-use Rattle.op_queue.specs.Items.{IsFrontPart, front_of, front_part, front_rows}
-use Rattle.op_queue.specs.Logs.{Closed, entering, instant_entries, is_shown, is_waiting, log_entries, row_entries, shown, span_entries}
+use Rattle.op_queue.specs.Cursors.{GoesOn, IsWithin}
+use Rattle.op_queue.specs.Entries.{Entry, RowAt, TickAt, front_of}
+use Rattle.op_queue.specs.Items.{IsFrontPart, front_part, front_rows}
+use Rattle.op_queue.specs.Logs.{Closed, entering, instant_entries, is_shown, log_entries}
+use Rattle.op_queue.specs.Logs.{cursor_entries, row_entries, shown, span_entries}
+use Rattle.op_queue.specs.Closings.{is_waiting}
 use Rattle.op_queue.specs.declared.cursor.Cursor.{Cursor}
 use Rattle.op_queue.specs.declared.item.Item.TheVariants.{Rows, Tick}
 use Rattle.op_queue.specs.declared.queue.Front.TheVariants as front

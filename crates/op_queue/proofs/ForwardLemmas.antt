@@ -7,7 +7,8 @@ use Rattle.std.proofs.lemmas.List.{get_or-append_right, get_or_append_left, get_
 use Rattle.std.proofs.lemmas.List.Elements.{All-append}
 use Rattle.std.proofs.lemmas.List.FromFn.{get_or-map-range_with_len, length-map-range_with_len}
 use Rattle.values.specs.Row.{Row}
-use Rattle.op_queue.specs.Entries.{Entry, IsForward, IsUpTo, RowAt, TickAt, instant_of}
+use Rattle.op_queue.specs.Entries.{Entry, RowAt, TickAt}
+use Rattle.op_queue.specs.Forward.{IsForward, IsUpTo, instant_of}
 use Rattle.op_queue.specs.Items.{entries_of, item_instant, ticks}
 use Rattle.op_queue.proofs.PieceLemmas.{IsForward-drop}
 use Rattle.op_queue.specs.declared.item.Item.{Item}

@@ -8,8 +8,8 @@ use Rattle.std.proofs.lemmas.List.FromFn.{get_or-map-range_with_len, length-map-
 use Rattle.values.specs.Row.{Row}
 use Rattle.op_queue.specs.declared.item.Item.{Item}
 use Rattle.op_queue.specs.declared.item.Item.TheVariants.{Rows, Tick}
-use Rattle.op_queue.specs.Items.{entries_of, ticks, front_of, IsFrontPart}
-use Rattle.op_queue.specs.Entries.{Entry, RowAt, TickAt}
+use Rattle.op_queue.specs.Items.{entries_of, ticks, IsFrontPart}
+use Rattle.op_queue.specs.Entries.{Entry, RowAt, TickAt, front_of}
 use Rattle.op_queue.specs.Pieces.{piece_size, piece_entries, queue_entries, IsPiece, IsQueue}
 use Rattle.op_queue.specs.declared.queue.Front.{Front}
 use Rattle.op_queue.specs.declared.queue.Front.TheVariants as front

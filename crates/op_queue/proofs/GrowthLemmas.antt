@@ -6,9 +6,10 @@ use Rattle.std.proofs.lemmas.Bool.{cases_lt}
 use Rattle.std.proofs.lemmas.List.{get_or_append_left, get_or-append_right}
 use Rattle.std.proofs.lemmas.List.Elements.{All-cons, All-nil, All-weaker, filter-append}
 use Rattle.values.specs.Window.{Element}
-use Rattle.op_queue.specs.Cursors.{GainsClosed, IsWithin, cursor_entries}
+use Rattle.op_queue.specs.Cursors.{GainsClosed, IsWithin}
 use Rattle.op_queue.specs.Entries.{TickAt}
-use Rattle.op_queue.specs.Logs.{Closed, IsClosing, IsInOrder, is_shown, log_entries, row_entries, shown, span_entries}
+use Rattle.op_queue.specs.Logs.{Closed, cursor_entries, is_shown, log_entries, row_entries, shown, span_entries}
+use Rattle.op_queue.specs.Closings.{IsClosing, IsInOrder}
 use Rattle.op_queue.specs.declared.cursor.Cursor.{Cursor}
 use Rattle.op_queue.proofs.CursorLemmas.{entries-fresh, entries-open, entries-shut, span-none}
 use Rattle.op_queue.proofs.ForwardLemmas.{seam}

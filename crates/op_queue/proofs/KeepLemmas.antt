@@ -6,7 +6,8 @@ use Rattle.std.proofs.lemmas.Bool.{cases_lt, false≢true}
 use Rattle.std.proofs.lemmas.List.{take_all, take-append-le, drop-append-le, get_or-append_right, get_or_append_left, get_or-drop, length-map}
 use Rattle.std.proofs.lemmas.List.FromFn.{length-range_with_len}
 use Rattle.values.specs.Row.{Row}
-use Rattle.op_queue.specs.Entries.{Entry, RowAt, TickAt, IsForward}
+use Rattle.op_queue.specs.Entries.{Entry, RowAt, TickAt}
+use Rattle.op_queue.specs.Forward.{IsForward}
 use Rattle.op_queue.specs.Items.{entries_of}
 use Rattle.op_queue.specs.Queues.{Waiting, HasGrown, IsCounted, IsCut, IsFirst, first_begins, pieces_of}
 use Rattle.op_queue.specs.declared.item.Item.{Item}

@@ -10,7 +10,8 @@ use Rattle.column.specs.Bits.{chosen}
 use Rattle.column.specs.Rows.{row_at}
 use Rattle.values.specs.Row.{Row, value_at}
 use Rattle.values.specs.Window.{Element}
-use Rattle.op_queue.specs.Logs.{Closed, IsInOrder}
+use Rattle.op_queue.specs.Logs.{Closed}
+use Rattle.op_queue.specs.Closings.{IsInOrder}
 use Rattle.op_queue.specs.Tables.{IsLog, IsTableOf, closed_in, element_at, elements_in, lists}
 use Rattle.op_queue.proofs.TableLemmas.{length-elements_in}
 

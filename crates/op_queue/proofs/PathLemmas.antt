@@ -1,7 +1,8 @@
 -- Paths: how they compose, what a consumer takes off the front, what a producer puts at the back.
 use Rattle.std.proofs.Common.{◌≡◌, ℕ, suc, ◌+◌, ◌<◌, ◌≤◌, Bool, List, [], ◌∷◌, ◌++◌, length, map, get_or, refl, ap, sym, ◌∙◌, subst, arith, append-nil, append_assoc, add_assoc, add-zero}
 use Prim.Native.Nat.{zero}
-use Rattle.op_queue.specs.Entries.{Entry, RowAt, TickAt, IsForward, instant_of}
+use Rattle.op_queue.specs.Entries.{Entry, RowAt, TickAt}
+use Rattle.op_queue.specs.Forward.{IsForward, instant_of}
 use Rattle.op_queue.specs.Paths.{Leads, Synced, rows_in, ticks_in}
 use Rattle.op_queue.specs.Signed.{Adds, Legal, Same, Turns}
 use Rattle.op_queue.proofs.SignedLemmas.{Adds-append, Adds-none, Adds-rest, Adds-same, Legal-front, Same-from_none, Same-refl, Turns-append, Turns-none, Turns-rest, Turns-same}

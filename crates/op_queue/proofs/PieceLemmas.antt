@@ -6,7 +6,8 @@ use Rattle.std.proofs.lemmas.List.{length-map, drop-append-le, get_or-drop}
 use Rattle.std.proofs.lemmas.List.FromFn.{length-map-range_with_len}
 use Rattle.std.proofs.lemmas.List.Elements.{All-head, All-tail, All-push}
 use Rattle.values.specs.Row.{Row}
-use Rattle.op_queue.specs.Entries.{Entry, RowAt, TickAt, IsForward}
+use Rattle.op_queue.specs.Entries.{Entry, RowAt, TickAt}
+use Rattle.op_queue.specs.Forward.{IsForward}
 use Rattle.op_queue.specs.Queues.{Waiting}
 use Rattle.op_queue.specs.Pieces.{piece_size, piece_entries, queue_entries, waiting_in, end_of_pieces, IsPiece, IsTaken, IsApart, IsQueue}
 use Rattle.op_queue.specs.declared.queue.Piece.{Piece}

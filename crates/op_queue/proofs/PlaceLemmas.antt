@@ -8,7 +8,8 @@ use Rattle.std.proofs.lemmas.List.{map-append, drop_at, drop_more}
 use Rattle.std.proofs.lemmas.List.Elements.{filter-append}
 use Rattle.std.proofs.lemmas.List.FromFn.{length-map-range_with_len, take-map-range_with_len, get_or-map-range_with_len}
 use Rattle.values.specs.Window.{Element}
-use Rattle.op_queue.specs.Logs.{IsInOrder, is_shown, is_waiting, shown}
+use Rattle.op_queue.specs.Logs.{is_shown, shown}
+use Rattle.op_queue.specs.Closings.{IsInOrder, is_waiting}
 use Rattle.op_queue.specs.Tables.{IsRising, element_at, elements_in}
 use Rattle.op_queue.proofs.RunLemmas.{range_with_len-add}
 use Rattle.op_queue.proofs.SpanLemmas.{filter-no, filter-yes}

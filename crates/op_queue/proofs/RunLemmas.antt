@@ -5,7 +5,8 @@ use Rattle.std.specs.List.{flat_map, range_with_len, All}
 use Rattle.std.proofs.lemmas.List.{set_split, take_more, take_all, drop_all, map-append, drop-append-le}
 use Rattle.std.proofs.lemmas.List.Elements.{All-push, All-nil, All-head, All-tail, All-cons}
 use Rattle.values.specs.Row.{Row}
-use Rattle.op_queue.specs.Entries.{Entry, TickAt, IsForward}
+use Rattle.op_queue.specs.Entries.{Entry, TickAt}
+use Rattle.op_queue.specs.Forward.{IsForward}
 use Rattle.op_queue.specs.Items.{ticks}
 use Rattle.op_queue.specs.Queues.{Waiting}
 use Rattle.op_queue.specs.Pieces.{piece_entries, queue_entries, waiting_in, IsPiece, IsTaken, IsQueue, IsLongerRun}

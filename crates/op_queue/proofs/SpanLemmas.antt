@@ -9,7 +9,8 @@ use Rattle.std.proofs.lemmas.List.Elements.{filter-append, All-head, All-tail, A
 use Rattle.values.specs.Row.{Row}
 use Rattle.values.specs.Window.{Element}
 use Rattle.op_queue.specs.Entries.{Entry, RowAt, TickAt}
-use Rattle.op_queue.specs.Logs.{entering, is_shown, is_waiting, instant_entries, span_entries}
+use Rattle.op_queue.specs.Logs.{entering, is_shown, instant_entries, span_entries}
+use Rattle.op_queue.specs.Closings.{is_waiting}
 use Rattle.op_queue.proofs.RunLemmas.{range_with_len-add}
 
 is_shown-yes : (p t : ℕ) (r : Element) → r.instant ≡ t → p ≤ r.arrival → is_shown p t r ≡ true

@@ -12,8 +12,7 @@ use Rattle.op_queue.specs.Items.{IsFrontPart, entries_of, first_instant, ticks}
 use Rattle.op_queue.specs.Pieces.{IsQueue, IsTakenWhole, piece_begins, piece_entries, queue_begins, queue_entries, waiting_in}
 use Rattle.op_queue.specs.Queues.{HasLeft, Waiting, at_once, pieces_of}
 use Rattle.values.specs.Window.{Element}
-use Rattle.op_queue.specs.Cursors.{cursor_entries}
-use Rattle.op_queue.specs.Logs.{Closed, log_entries, row_entries}
+use Rattle.op_queue.specs.Logs.{Closed, cursor_entries, log_entries, row_entries}
 use Rattle.op_queue.specs.declared.cursor.Cursor.{Cursor}
 use Rattle.op_queue.proofs.CursorLemmas.{entries-open, rest_of}
 use Rattle.op_queue.proofs.BeginLemmas.{at_once-rows, front_cut-queue}

@@ -1,18 +1,12 @@
 -- The queue that a cursor stands for over its log.
-use Rattle.std.specs.Prelude.{◌≡◌, ℕ, zero, suc, ◌+◌, ◌-◌, ◌<◌, ◌≤◌, cond, max, nat_lt, List, []}
-use Rattle.std.specs.Prelude.{◌∷◌, ◌++◌, drop, length}
+use Rattle.std.specs.Prelude.{◌≡◌, ℕ, zero, suc, ◌+◌, ◌-◌, ◌<◌, ◌≤◌, max, List, [], ◌∷◌, ◌++◌}
+use Rattle.std.specs.Prelude.{length}
 use Rattle.values.specs.Row.{Row}
 use Rattle.values.specs.Window.{Element}
 use Rattle.op_queue.specs.Entries.{Entry, TickAt}
-use Rattle.op_queue.specs.Logs.{Closed, HasNoRows, shown, row_entries, log_entries}
-use Rattle.op_queue.specs.Logs.{span_entries}
+use Rattle.op_queue.specs.Logs.{Closed, shown, span_entries, cursor_entries}
+use Rattle.op_queue.specs.Closings.{HasNoRows}
 use Rattle.op_queue.specs.declared.cursor.Cursor.{Cursor}
-
--- what is left of the cursor's instant, and then the later instants
-abbrev pub cursor_entries : Cursor → Closed → List (Entry Row)
-cursor_entries c log =
-    cond (nat_lt c.at log.until) (row_entries c.at (drop c.passed (shown c.place c.at log.elements))
-    ++ TickAt c.at ∷ log_entries c.place (c.at + 1) log) []
 
 -- the cursor has passed no more rows of its instant than the log has
 abbrev pub IsWithin : Cursor → Closed → Type 0

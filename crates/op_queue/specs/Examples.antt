@@ -2,10 +2,9 @@
 use Rattle.std.specs.Prelude.{◌≡◌, ℕ, Bool, true, false, Some, pos, List, [], ◌∷◌, ◌++◌, drop, refl}
 use Rattle.values.specs.Row.{Row}
 use Rattle.values.specs.Window.{Element}
-use Rattle.op_queue.specs.Cursors.{cursor_entries}
-use Rattle.op_queue.specs.Entries.{RowAt, TickAt}
-use Rattle.op_queue.specs.Items.{entries_of, front_of, ticks}
-use Rattle.op_queue.specs.Logs.{Closed, log_entries}
+use Rattle.op_queue.specs.Entries.{RowAt, TickAt, front_of}
+use Rattle.op_queue.specs.Items.{entries_of, ticks}
+use Rattle.op_queue.specs.Logs.{Closed, cursor_entries, log_entries}
 use Rattle.op_queue.specs.Queues.{at_once, each_begins, first_begins, last_entry, pieces_of}
 use Rattle.op_queue.specs.Queues.{run_pieces}
 use Rattle.op_queue.specs.declared.item.Item.TheVariants.{Rows}

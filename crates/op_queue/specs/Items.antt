@@ -3,11 +3,10 @@ use Rattle.std.specs.Prelude.{◌≡◌, ℕ, ◌+◌, ◌-◌, ◌<◌, ◌≤�
 use Rattle.std.specs.Prelude.{map, take}
 use Rattle.std.specs.List.{range_with_len}
 use Rattle.values.specs.Row.{Row}
-use Rattle.op_queue.specs.Entries.{Entry, RowAt, TickAt, instant_of}
+use Rattle.op_queue.specs.Entries.{Entry, RowAt, TickAt}
+use Rattle.op_queue.specs.Forward.{instant_of}
 use Rattle.op_queue.specs.declared.item.Item.{Item}
 use Rattle.op_queue.specs.declared.item.Item.TheVariants.{Rows, Tick}
-use Rattle.op_queue.specs.declared.queue.Front.{Front}
-use Rattle.op_queue.specs.declared.queue.Front.TheVariants as front
 
 abbrev pub entries_of : Item → List (Entry Row)
 entries_of (Rows t b) = map (RowAt t) b
@@ -20,12 +19,6 @@ item_instant (Tick t) = t
 -- the ticks from the first to the last
 abbrev pub ticks : ℕ → ℕ → List (Entry Row)
 ticks first last = map TickAt (range_with_len first (last + 1 - first))
-
--- whether a row or a tick comes first, and of which instant
-abbrev pub front_of : List (Entry Row) → Option Front
-front_of [] = None
-front_of (RowAt t s ∷ es) = Some (front.Row t)
-front_of (TickAt t ∷ es) = Some (front.Tick t)
 
 -- the instant of the row or the tick that comes first
 abbrev pub first_instant : List (Entry Row) → Option ℕ

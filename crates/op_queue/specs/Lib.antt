@@ -1,8 +1,10 @@
 pub mod Entries
+pub mod Forward
 pub mod Queues
 pub mod Items
 pub mod Pieces
 pub mod Logs
+pub mod Closings
 pub mod Tables
 pub mod Flat
 pub mod Cursors

@@ -4,7 +4,8 @@ use Rattle.std.specs.Prelude.{◌∷◌, ◌++◌, map, length, drop}
 use Rattle.std.specs.List.{flat_map, last_or, All}
 use Rattle.values.specs.Row.{Row}
 use Rattle.column.specs.Rows.{IsBatch}
-use Rattle.op_queue.specs.Entries.{Entry, RowAt, TickAt, IsForward}
+use Rattle.op_queue.specs.Entries.{Entry, RowAt, TickAt}
+use Rattle.op_queue.specs.Forward.{IsForward}
 use Rattle.op_queue.specs.Items.{ticks}
 use Rattle.op_queue.specs.Queues.{Waiting, first_begins, each_begins, run_pieces}
 use Rattle.op_queue.specs.declared.item.Item.{Item}

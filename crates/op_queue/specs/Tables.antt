@@ -6,7 +6,8 @@ use Rattle.std.specs.List.{All, range_with_len}
 use Rattle.column.specs.Rows.{row_at}
 use Rattle.values.specs.declared.TheConstants.{MAX_COLUMNS}
 use Rattle.values.specs.Window.{Element}
-use Rattle.op_queue.specs.Logs.{Closed, IsInOrder}
+use Rattle.op_queue.specs.Logs.{Closed}
+use Rattle.op_queue.specs.Closings.{IsInOrder}
 
 -- rows as they are handed to the log: the instants, the
 -- numbers, and the values, one row's behind another's

@@ -1,9 +1,10 @@
 //! Keeps cursors: the queues that queries read of a stream's log.
 ghost use Rattle.std.specs.Prelude.{◌≡◌, ℕ, ◌<◌, ◌≤◌, length, drop, min, slice_range, IfOk, OnErr};
-ghost use Rattle.op_queue.specs.Cursors.{GoesOn, HasLeft, IsClear, IsWithin, cursor_entries};
-ghost use Rattle.op_queue.specs.Items.{IsFrontPart, entries_of, first_instant, front_of};
+ghost use Rattle.op_queue.specs.Cursors.{GoesOn, HasLeft, IsClear, IsWithin};
+ghost use Rattle.op_queue.specs.Items.{IsFrontPart, entries_of, first_instant};
+ghost use Rattle.op_queue.specs.Entries.{front_of};
 ghost use Rattle.op_queue.specs.Items.{front_part};
-ghost use Rattle.op_queue.specs.Logs.{Closed, log_entries, shown};
+ghost use Rattle.op_queue.specs.Logs.{Closed, cursor_entries, log_entries, shown};
 
 use crate::item::Item;
 use crate::log::Log;

@@ -1,13 +1,14 @@
 //! Keeps queues: signed rows and ticks between two operators.
 ghost use Rattle.std.specs.Prelude.{◌≡◌, ◌↔◌, IsTrue, Some, ◌+◌, ◌^◌, ◌<◌, ◌≤◌, ◌++◌, []};
-ghost use Rattle.std.specs.Prelude.{length, take, drop, IfOk, IfSome, OnOk, OnErr, MatchOption, min};
-ghost use Rattle.std.specs.Prelude.{ℕ, All, Bool, List, map};
+ghost use Rattle.std.specs.Prelude.{length, take, drop, IfOk, IfSome, OnOk, OnErr, MatchOption};
+ghost use Rattle.std.specs.Prelude.{min, ℕ, All, Bool, List, map};
 ghost use Rattle.std.specs.Bool.{OnTrue, OnFalse};
 ghost use Rattle.column.specs.Rows.{width};
 ghost use Rattle.values.specs.Row.{Row};
 ghost use Rattle.values.specs.declared.TheConstants.{MAX_COLUMNS};
-ghost use Rattle.op_queue.specs.Entries.{IsForward, RowAt};
-ghost use Rattle.op_queue.specs.Items.{entries_of, first_instant, front_of, ticks};
+ghost use Rattle.op_queue.specs.Entries.{RowAt, front_of};
+ghost use Rattle.op_queue.specs.Forward.{IsForward};
+ghost use Rattle.op_queue.specs.Items.{entries_of, first_instant, ticks};
 ghost use Rattle.op_queue.specs.Items.{IsFrontPart};
 ghost use Rattle.op_queue.specs.Queues.{HasDropped, HasGained, HasLeft, IsCut, IsFirst};
 ghost use Rattle.op_queue.specs.Queues.{IsFrontBatch, at_once, chosen_first, each_begins};
@@ -348,9 +349,9 @@ impl Queue {
         self.waiting -= count as u128;
     }
 
-    /// Keeps the first `count` rows and ticks, and drops what came behind them. A batch has to begin
-    /// at that place, or nothing is there. It costs the batches and runs that go, and takes no
-    /// memory.
+    /// Keeps the first `count` rows and ticks, and drops what came behind them. A batch has to
+    /// begin at that place, or nothing is there. It costs the batches and runs that go, and takes
+    /// no memory.
     pub fn keep_first(&mut self, count: u128)
         requires within { count ≤ length self.old.entries }
         requires cut { IsCut count self.old }

@@ -19,7 +19,8 @@ use Rattle.turn.specs.declared.kinds.Kind.TheVariants as kind
 use Rattle.operators.specs.Fronts.{HasAnsweredFirst, HasRunFirst, HasTakenFirst, IsInFront, IsRunnable, MayAnswerFirst, MayComeFirst, MayTakeFirst}
 use Rattle.operators.specs.InPlace.{HaveCome, IsAfterItem, MayAnswer, MayCome, MayComeAll, MayQueue, MayTake, TookRows, after_answers, answers_from, outs_from}
 use Rattle.operators.specs.Inboxes.{IsDropped}
-use Rattle.operators.specs.Operators.{Belongs, HasNamedColumns, IsFinished, PlainOperator, inbox_of, other, waiting}
+use Rattle.operators.specs.Operators.{Belongs, HasNamedColumns, IsFinished, other}
+use Rattle.operators.specs.Ready.{PlainOperator, inbox_of, waiting}
 use Rattle.operators.specs.Runs.{GivesFirst, HasGiven, HasPutTo, HasRunBelow, HasRunBelowLess, HasRunRoot, HasRunRootLess, IsAbove, IsElse, IsGiven, IsInHand, MayPut, MayPutFirst, MayRun, Stops, TakesItem, change_with, outs_with}
 use Rattle.operators.specs.declared.runs.Refused.{Refused}
 use Rattle.operators.specs.declared.runs.Refused.TheVariants.{Before, Within}

@@ -4,14 +4,15 @@ use Rattle.std.proofs.lemmas.List.{get_or_append_left}
 use Rattle.std.proofs.lemmas.List.{append_assoc}
 use Rattle.values.specs.Row.{Row}
 use Rattle.std.specs.Option.{option_map}
-use Rattle.op_queue.specs.Entries.{Entry, IsForward, RowAt, TickAt}
-use Rattle.op_queue.specs.Items.{entries_of, first_instant, front_of}
+use Rattle.op_queue.specs.Entries.{Entry, RowAt, TickAt, front_of}
+use Rattle.op_queue.specs.Forward.{IsForward}
+use Rattle.op_queue.specs.Items.{entries_of, first_instant}
 use Rattle.op_queue.specs.declared.item.Item.{Item}
 use Rattle.values.specs.Window.{Element}
 use Rattle.op_queue.specs.Cursors.{GainsClosed}
 use Rattle.op_queue.specs.Logs.{Closed, span_entries}
-use Rattle.operators.specs.Inboxes.{IsInboxWithin, all_entries, entries_in, is_fed, queued}
-use Rattle.operators.specs.Operators.{front_instant}
+use Rattle.operators.specs.Inboxes.{IsInboxWithin, all_entries, is_fed, queued}
+use Rattle.operators.specs.Ready.{entries_in, front_instant}
 use Rattle.operators.specs.declared.inboxes.Inbox.{Inbox}
 use Rattle.operators.specs.declared.inboxes.Inbox.TheVariants.{First, Between}
 

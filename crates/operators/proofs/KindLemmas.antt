@@ -13,7 +13,7 @@ use Rattle.turn.specs.declared.kinds.Kind.{Kind}
 use Rattle.turn.specs.declared.kinds.Kind.TheVariants as kind
 use Rattle.turn.specs.declared.outcomes.Change.{Change}
 use Rattle.operators.specs.Operators.{Belongs, HasNamedColumns, IsOfWindow}
-use Rattle.operators.specs.States.{FitsState, IsNext, IsWindowAfter, shown_in}
+use Rattle.operators.specs.States.{FitsState, IsNext, IsWindowAfter}
 use Rattle.operators.specs.declared.states.State.{State}
 use Rattle.operators.specs.declared.states.State.TheVariants.{Window, Nothing, Join, Groups, Root}
 
@@ -48,5 +48,5 @@ belongs_next kind.Window s side i c new b h = window_stays b.0 i new (subst (λ 
 belongs_next (kind.Select steps) s side i c new b h = subst (λ t. IsNext t side i c new) b h
 belongs_next (kind.Project columns) s side i c new b h = subst (λ t. IsNext t side i c new) b h
 belongs_next kind.Join s side i c new b h = (_, subst (λ t. IsNext t side i c new) b.1 h)
-belongs_next (kind.Group g) s side i c new b h = (_, subst (λ t. IsNext t side i c new) b.1 h, group_kept b.0 i (shown_in c) ∙ b.2)
+belongs_next (kind.Group g) s side i c new b h = (_, subst (λ t. IsNext t side i c new) b.1 h, group_kept b.0 i c.shown ∙ b.2)
 belongs_next kind.ToStream s side i c new b h = (_, subst (λ t. IsNext t side i c new) b.1 h)

@@ -2,9 +2,9 @@
 use Rattle.std.proofs.Common.{◌≡◌, ◌∙◌, ◌≤◌, ℕ, zero, suc, true, true≢false, IfErr, OnErr, OnOk, [], ap, arith, drop, length, length-append, map, refl, subst, sym}
 use Rattle.std.specs.Prelude.{⊤, Result, Ok, Err}
 use Rattle.column.specs.declared.batch.Side.{Side}
-use Rattle.op_queue.specs.Cursors.{GoesOn, IsWithin, cursor_entries}
+use Rattle.op_queue.specs.Cursors.{GoesOn, IsWithin}
 use Rattle.op_queue.specs.Items.{entries_of}
-use Rattle.op_queue.specs.Logs.{Closed}
+use Rattle.op_queue.specs.Logs.{Closed, cursor_entries}
 use Rattle.op_queue.specs.Entries.{RowAt}
 use Rattle.op_queue.specs.Queues.{HasGrown, HasLeft, IsCounted, IsCut, IsFirst, Waiting, pieces_of}
 use Rattle.op_queue.proofs.KeepLemmas.{cut_behind, kept_before}

@@ -11,12 +11,13 @@ use Rattle.op_queue.specs.declared.item.Item.TheVariants as item
 use Rattle.group.specs.Turns as groups
 use Rattle.group.specs.Turns.{GroupState}
 use Rattle.join.specs.Turns as join
-use Rattle.join.specs.Turns.{JoinState}
+use Rattle.join.specs.States.{JoinState}
 use Rattle.to_stream.specs.Turns as root
 use Rattle.turn.specs.declared.kinds.Kind.{Kind}
 use Rattle.operators.specs.InPlace.{HasQueued, HaveCome, IsAfterItem, MayAnswer, MayComeAll}
 use Rattle.operators.specs.InPlace.{MayTake, TookRows, after_answers, answers_from, outs_from}
-use Rattle.operators.specs.Inboxes.{IsDropped, IsInboxWithin, cut_of, entries_in}
+use Rattle.operators.specs.Inboxes.{IsDropped, IsInboxWithin, cut_of}
+use Rattle.operators.specs.Ready.{entries_in}
 use Rattle.operators.specs.States.{FitsState, near_of}
 use Rattle.operators.specs.declared.inboxes.Inbox.{Inbox}
 use Rattle.operators.specs.declared.inboxes.Inbox.TheVariants.{Between}

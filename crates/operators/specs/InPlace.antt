@@ -2,7 +2,8 @@
 use Rattle.std.specs.Prelude.{ℕ, ◌≡◌, ◌<◌, Bool, true, List, [], ◌++◌, length, take}
 use Rattle.values.specs.Row.{Row}
 use Rattle.column.specs.declared.batch.Side.{Side}
-use Rattle.op_queue.specs.Entries.{Entry, IsForward}
+use Rattle.op_queue.specs.Entries.{Entry}
+use Rattle.op_queue.specs.Forward.{IsForward}
 use Rattle.op_queue.specs.Items.{entries_of}
 use Rattle.op_queue.specs.Queues.{HasGained, Waiting}
 use Rattle.op_queue.specs.declared.item.Item.{Item}
@@ -11,7 +12,7 @@ use Rattle.group.specs.Turns as groups
 use Rattle.group.specs.Turns.{RoomFor}
 use Rattle.join.specs.Laws.{MayLeave}
 use Rattle.join.specs.Turns as join
-use Rattle.join.specs.Turns.{JoinState, side_of}
+use Rattle.join.specs.States.{JoinState, side_of}
 use Rattle.row_nodes.specs.Project.{projected}
 use Rattle.row_nodes.specs.Select.{selected}
 use Rattle.to_stream.specs.Turns as root

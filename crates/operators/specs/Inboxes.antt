@@ -3,20 +3,15 @@
 use Rattle.std.specs.Prelude.{ℕ, ◌≡◌, Bool, true, false, min, List, [], take, drop}
 use Rattle.std.specs.List.{flat_map}
 use Rattle.values.specs.Row.{Row}
-use Rattle.op_queue.specs.Cursors.{GoesOn, IsWithin, cursor_entries}
+use Rattle.op_queue.specs.Cursors.{GoesOn, IsWithin}
 use Rattle.op_queue.specs.Entries.{Entry}
 use Rattle.op_queue.specs.Items.{entries_of, front_part}
-use Rattle.op_queue.specs.Logs.{Closed}
+use Rattle.op_queue.specs.Logs.{Closed, cursor_entries}
 use Rattle.op_queue.specs.Queues.{at_once, first_begins}
 use Rattle.op_queue.specs.declared.item.Item.{Item}
 use Rattle.operators.specs.declared.inboxes.Inbox.{Inbox}
 use Rattle.operators.specs.declared.inboxes.Inbox.TheVariants.{First, Between}
-
--- the rows and ticks that wait, where the log is that of the stream
--- that a first queue reads; a queue between operators reads none
-abbrev pub entries_in : Inbox → Closed → List (Entry Row)
-entries_in (First c) log = cursor_entries c log
-entries_in (Between q) log = q.entries
+use Rattle.operators.specs.Ready.{entries_in}
 
 -- a first queue's cursor has passed no more than its log has
 abbrev pub IsInboxWithin : Inbox → Closed → Type 0

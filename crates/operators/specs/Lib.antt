@@ -1,4 +1,5 @@
 pub mod States
+pub mod Ready
 pub mod Inboxes
 pub mod Operators
 pub mod InPlace

@@ -1,19 +1,15 @@
--- An operator of a running query, as a plain value.
-use Rattle.std.specs.Prelude.{ℕ, ◌≡◌, cond, Option, Some, None, List, ◌++◌, length}
-use Rattle.std.specs.Option.{option_map}
+-- Which operators fit their kind, and what a turn makes of one.
+use Rattle.std.specs.Prelude.{◌≡◌, List, ◌++◌, length}
 use Rattle.values.specs.Row.{Row}
-use Rattle.column.specs.Rows.{of_side}
 use Rattle.column.specs.declared.batch.Side.{Side}
 use Rattle.column.specs.declared.batch.Side.TheVariants.{Left, Right}
 use Rattle.op_queue.specs.Entries.{Entry}
-use Rattle.op_queue.specs.Items.{entries_of, front_of}
+use Rattle.op_queue.specs.Items.{entries_of}
 use Rattle.op_queue.specs.Logs.{Closed}
 use Rattle.op_queue.specs.declared.item.Item.{Item}
-use Rattle.op_queue.specs.declared.queue.Front.{Front}
-use Rattle.op_queue.specs.declared.queue.Front.TheVariants as front
 use Rattle.group.specs.Groups.{GroupBy}
 use Rattle.group.specs.Turns.{GroupState}
-use Rattle.join.specs.Turns.{JoinState}
+use Rattle.join.specs.States.{JoinState}
 use Rattle.to_stream.specs.Turns as root
 use Rattle.windows.specs.Windows.{WindowState}
 use Rattle.row_nodes.specs.Project.{AreColumns}
@@ -21,31 +17,15 @@ use Rattle.row_nodes.specs.Select.{FitItem}
 use Rattle.turn.specs.declared.kinds.Kind.{Kind}
 use Rattle.turn.specs.declared.kinds.Kind.TheVariants as kind
 use Rattle.turn.specs.declared.outcomes.Change.{Change}
-use Rattle.operators.specs.Inboxes.{IsDropped, all_begins, begins_in, entries_in, is_fed, queued}
-use Rattle.operators.specs.States.{IsNext, usable}
-use Rattle.operators.specs.declared.inboxes.Inbox.{Inbox}
+use Rattle.operators.specs.Inboxes.{IsDropped, all_begins, begins_in, is_fed, queued}
+use Rattle.operators.specs.States.{IsNext}
 use Rattle.operators.specs.declared.states.State.{State}
 use Rattle.operators.specs.declared.states.State.TheVariants.{Window, Nothing, Join, Groups, Root}
-
--- what it does, what it holds, and what waits on its
--- sides; an operator with one input has it on the left
-pub record PlainOperator : Type 0 where
-  pub kind : Kind
-  pub state : State
-  pub left : Inbox
-  pub right : Inbox
-
-abbrev pub inbox_of : PlainOperator → Side → Inbox
-inbox_of o side = of_side side o.left o.right
+use Rattle.operators.specs.Ready.{PlainOperator, inbox_of}
 
 abbrev pub other : Side → Side
 other Left = Right
 other Right = Left
-
--- the rows and ticks that wait on a side, where the
--- log is that of the stream that a first queue reads
-abbrev pub waiting : PlainOperator → Closed → Side → List (Entry Row)
-waiting o log side = entries_in (inbox_of o side) log
 
 -- THE STATE IS ONE OF THE KIND
 abbrev pub IsOfWindow : State → Type 0
@@ -76,25 +56,6 @@ HasNamedColumns (kind.Project columns) i = AreColumns columns i
 HasNamedColumns kind.Join i = Unit {0}
 HasNamedColumns (kind.Group g) i = Unit {0}
 HasNamedColumns kind.ToStream i = Unit {0}
-
--- WHICH SIDE A LEASE TAKES
-abbrev pub front_instant : Front → ℕ
-front_instant (front.Row t) = t
-front_instant (front.Tick t) = t
-
--- the instant at the front of the side, where the side can be used
-abbrev pub ready_at : PlainOperator → Closed → Side → Option ℕ
-ready_at o log side = cond (usable o.state side)
-    (option_map front_instant (front_of (waiting o log side))) None
-
--- the left side where both can be used
-abbrev pub first_ready : Option ℕ → Option ℕ → Option (Side × ℕ)
-first_ready (Some t) right = Some (Left, t)
-first_ready None (Some t) = Some (Right, t)
-first_ready None None = None
-
-abbrev pub ready : PlainOperator → Closed → Option (Side × ℕ)
-ready o log = first_ready (ready_at o log Left) (ready_at o log Right)
 
 -- AFTER A TURN with an item of the side: the item has left its
 -- queue, the other queue is as it was, and the state is the next one

@@ -4,8 +4,7 @@ use Rattle.op_queue.specs.Cursors.{HasLeft, IsClear}
 use Rattle.op_queue.specs.Logs.{Closed}
 use Rattle.to_stream.specs.Turns as root
 use Rattle.windows.specs.Windows.{Stays}
-use Rattle.operators.specs.Inboxes.{entries_in}
-use Rattle.operators.specs.Operators.{PlainOperator}
+use Rattle.operators.specs.Ready.{PlainOperator, entries_in}
 use Rattle.operators.specs.declared.inboxes.Inbox.{Inbox}
 use Rattle.operators.specs.declared.inboxes.Inbox.TheVariants.{First, Between}
 use Rattle.operators.specs.declared.states.State.{State}

@@ -3,7 +3,8 @@ use Rattle.std.specs.Prelude.{ℕ, zero, suc, ⊤, ◌≡◌, ◌<◌, Bool, tru
 use Rattle.std.specs.Prelude.{Result, Ok, Err}
 use Rattle.values.specs.Row.{Row}
 use Rattle.column.specs.declared.batch.Side.{Side}
-use Rattle.op_queue.specs.Entries.{Entry, IsForward}
+use Rattle.op_queue.specs.Entries.{Entry}
+use Rattle.op_queue.specs.Forward.{IsForward}
 use Rattle.op_queue.specs.Items.{IsFrontPart, entries_of}
 use Rattle.op_queue.specs.Logs.{Closed}
 use Rattle.op_queue.specs.declared.item.Item.{Item}
@@ -15,7 +16,8 @@ use Rattle.turn.specs.declared.outcomes.Change.{Change}
 use Rattle.turn.specs.declared.parts.Parts.{Parts}
 use Rattle.operators.specs.Inboxes.{IsInboxWithin, all_entries, cut_of, is_fed, queued}
 use Rattle.operators.specs.Operators.{Belongs, HasNamedColumns, IsFed, IsFinished, KeepsBatches}
-use Rattle.operators.specs.Operators.{PlainOperator, inbox_of, other, waiting}
+use Rattle.operators.specs.Operators.{other}
+use Rattle.operators.specs.Ready.{PlainOperator, inbox_of, waiting}
 use Rattle.operators.specs.States.{HasColumns, HasStood, Takes, near_of}
 use Rattle.operators.specs.declared.runs.Refused.{Refused}
 use Rattle.operators.specs.declared.runs.Refused.TheVariants.{Before, Within}

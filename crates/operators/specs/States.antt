@@ -1,15 +1,13 @@
 -- What operators hold, as plain values: the excerpt that
 -- an item needs of it, and what is held after a turn.
-use Rattle.std.specs.Prelude.{ℕ, ◌≡◌, Bool, true, false, not, List, [], Option, None}
-use Rattle.values.specs.Row.{Row}
+use Rattle.std.specs.Prelude.{◌≡◌}
 use Rattle.column.specs.declared.batch.Side.{Side}
-use Rattle.column.specs.declared.batch.Side.TheVariants.{Left, Right}
 use Rattle.op_queue.specs.declared.item.Item.{Item}
 use Rattle.group.specs.Turns as groups
-use Rattle.group.specs.Turns.{GroupState, ShownState, RoomFor}
+use Rattle.group.specs.Turns.{RoomFor}
 use Rattle.join.specs.Laws.{MayLeave}
 use Rattle.join.specs.Turns as join
-use Rattle.join.specs.Turns.{side_of}
+use Rattle.join.specs.States.{side_of}
 use Rattle.to_stream.specs.Turns as root
 use Rattle.windows.specs.Widths.{IsItemWide}
 use Rattle.windows.specs.Windows as window
@@ -18,31 +16,8 @@ use Rattle.turn.specs.Turns.{FitsGroup, FitsJoin, FitsRoot, FitsWindow}
 use Rattle.turn.specs.declared.excerpts.Excerpt.{Excerpt}
 use Rattle.turn.specs.declared.excerpts.Excerpt.TheVariants as near
 use Rattle.turn.specs.declared.outcomes.Change.{Change}
-use Rattle.turn.specs.declared.outcomes.Change.TheVariants as change
 use Rattle.operators.specs.declared.states.State.{State}
 use Rattle.operators.specs.declared.states.State.TheVariants.{Window, Nothing, Join, Groups, Root}
-
--- the instant of the last tick that a root took
-abbrev pub last_in : State → Option ℕ
-last_in (Window s) = None
-last_in Nothing = None
-last_in (Join s) = None
-last_in (Groups s) = None
-last_in (Root s) = s.last
-
--- WHICH SIDE CAN BE USED
--- an operator with one input uses the left side, a join
--- any side that has not ticked in its current instant
-abbrev pub is_left : Side → Bool
-is_left Left = true
-is_left Right = false
-
-abbrev pub usable : State → Side → Bool
-usable (Window s) side = is_left side
-usable Nothing side = is_left side
-usable (Join s) side = not (side_of s side).ticked
-usable (Groups s) side = is_left side
-usable (Root s) side = is_left side
 
 -- THE EXCERPT
 abbrev pub near_of : State → Side → Item → Excerpt
@@ -69,11 +44,6 @@ FitsState (Groups s) i n = FitsGroup n
 FitsState (Root s) i n = FitsRoot n
 
 -- THE NEXT STATE
--- what a change says of groups, if it does
-abbrev pub shown_in : Change → List ShownState
-shown_in change.Nothing = []
-shown_in (change.Groups shown) = shown
-
 abbrev pub IsWindowAfter : WindowState → Item → State → Type 0
 IsWindowAfter s i (Window new) = window.IsNext s i new
 IsWindowAfter s i Nothing = ⊥
@@ -87,20 +57,16 @@ abbrev pub IsNext : State → Side → Item → Change → State → Type 0
 IsNext (Window s) side i c new = IsWindowAfter s i new
 IsNext Nothing side i c new = new ≡ Nothing
 IsNext (Join s) side i c new = new ≡ Join (join.next s side i)
-IsNext (Groups s) side i c new = new ≡ Groups (groups.next s i (shown_in c))
+IsNext (Groups s) side i c new = new ≡ Groups (groups.next s i c.shown)
 IsNext (Root s) side i c new = new ≡ Root (root.next s i)
 
 -- THE CALLER'S CONDITIONS of the next state: instants come one after the other, the item has the
--- columns, counts are within bounds, and the change is one of this state's turns with the item
-abbrev pub TakesGroups : GroupState → Item → Change → Type 0
-TakesGroups s i change.Nothing = ⊥
-TakesGroups s i (change.Groups shown) = RoomFor s i
-
+-- columns, and counts are within bounds
 abbrev pub Takes : State → Side → Item → Change → Type 0
 Takes (Window s) side i c = window.MayTake s i
 Takes Nothing side i c = Unit {0}
 Takes (Join s) side i c = join.HasRoom (side_of s side) i
-Takes (Groups s) side i c = TakesGroups s i c
+Takes (Groups s) side i c = RoomFor s i
 Takes (Root s) side i c = root.HasRoom s i
 
 -- WHAT CAME BEFORE: of a join the rows that leave are among those that its side has taken

@@ -1,6 +1,6 @@
 //! Turns that states run in place.
 ghost use Rattle.std.specs.Prelude.{◌≡◌, ◌++◌, IfErr, OnErr, OnOk};
-ghost use Rattle.op_queue.specs.Entries.{IsForward};
+ghost use Rattle.op_queue.specs.Forward.{IsForward};
 ghost use Rattle.op_queue.specs.Queues.{HasGained, HasGrown};
 ghost use Rattle.group.specs.Turns as spec;
 ghost use Rattle.turn.specs.Turns.{FitsWindow};

@@ -1,10 +1,12 @@
 //! What waits for operators.
 ghost use Rattle.std.specs.Prelude.{◌≡◌, ℕ, ◌<◌, ◌≤◌, ◌++◌, true, length, drop, IfOk};
 ghost use Rattle.std.specs.Prelude.{OnOk};
-ghost use Rattle.op_queue.specs.Entries.{IsForward};
-ghost use Rattle.op_queue.specs.Items.{IsFrontPart, entries_of, first_instant, front_of};
+ghost use Rattle.op_queue.specs.Forward.{IsForward};
+ghost use Rattle.op_queue.specs.Items.{IsFrontPart, entries_of, first_instant};
+ghost use Rattle.op_queue.specs.Entries.{front_of};
 ghost use Rattle.operators.specs.Inboxes.{IsDropped, IsInboxWithin, ReadsOn, all_begins};
-ghost use Rattle.operators.specs.Inboxes.{all_entries, begins_in, cut_of, entries_in, is_fed};
+ghost use Rattle.operators.specs.Inboxes.{all_entries, begins_in, cut_of, is_fed};
+ghost use Rattle.operators.specs.Ready.{entries_in};
 ghost use Rattle.operators.specs.Inboxes.{queued};
 ghost use Rattle.operators.specs.Passing.{AreGone, MayLeave};
 

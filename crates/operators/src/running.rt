@@ -2,7 +2,7 @@
 ghost use Rattle.std.specs.Prelude.{◌≡◌, ℕ, ◌<◌, ◌≤◌, ◌++◌, [], true, length, IfErr, IfOk, OnErr};
 ghost use Rattle.std.specs.Prelude.{OnOk};
 ghost use Rattle.std.specs.Arc.{arc_value};
-ghost use Rattle.op_queue.specs.Entries.{IsForward};
+ghost use Rattle.op_queue.specs.Forward.{IsForward};
 ghost use Rattle.op_queue.specs.Items.{IsFrontPart, entries_of};
 ghost use Rattle.turn.specs.Turns.{FitsKind};
 ghost use Rattle.operators.specs.Fronts.{HasAnsweredFirst, HasRunFirst, HasTakenFirst, IsRunnable};
@@ -10,12 +10,12 @@ ghost use Rattle.operators.specs.Fronts.{MayAnswerFirst, MayComeFirst, MayTakeFi
 ghost use Rattle.operators.specs.Inboxes.{IsDropped, IsInboxWithin, all_entries, cut_of};
 ghost use Rattle.operators.specs.Inboxes.{is_fed, queued};
 ghost use Rattle.operators.specs.Operators.{Belongs, HasNamedColumns, IsFed, IsFinished};
-ghost use Rattle.operators.specs.Operators.{KeepsBatches, inbox_of, other, ready};
-ghost use Rattle.operators.specs.Operators.{ready_at, waiting};
+ghost use Rattle.operators.specs.Operators.{KeepsBatches, other};
 ghost use Rattle.operators.specs.Passing.{IsPassed, IsQuiet, MayPass};
 ghost use Rattle.operators.specs.Runs.{IsAbove, IsElse, Stops, is_root};
 ghost use Rattle.operators.specs.States.{FitsState, HasColumns, IsNext, Takes, near_of};
-ghost use Rattle.operators.specs.States.{last_in, usable};
+ghost use Rattle.operators.specs.Ready.{PlainOperator, inbox_of, last_in, ready, ready_at, usable};
+ghost use Rattle.operators.specs.Ready.{waiting};
 ghost use Rattle.operators.specs.declared.inboxes.Inbox.TheVariants.{Between};
 
 use crate::inboxes::Inbox;
@@ -47,7 +47,7 @@ pub struct Operator {
 
 impl Model for Operator {
     ghost use Rattle.std.specs.Arc.{arc_value};
-    ghost use Rattle.operators.specs.Operators.{PlainOperator};
+    ghost use Rattle.operators.specs.Ready.{PlainOperator};
 
     ghost Value = { PlainOperator };
 

@@ -16,7 +16,7 @@ use Rattle.row_nodes.specs.Project.{columns_in}
 use Rattle.row_nodes.specs.Steps.{IsOfOneSource, truths_needed}
 use Rattle.row_nodes.proofs.StepLemmas.{steps_mean}
 use Rattle.plan.specs.Build.{at}
-use Rattle.plan.specs.Nodes as nodes
+use Rattle.plan.specs.Values as valued
 use Rattle.plan.specs.Views.{columns_at, keys_of}
 use Rattle.plan.specs.declared.node.Key.{Key}
 use Rattle.physical_plans.specs.Beginnings.{grouping, key_pair}
@@ -38,19 +38,19 @@ and_true : (b : Bool) → b ≡ (b && true)
 and_true true = refl
 and_true false = refl
 
-keeps_all : (c : Condition) (cs : List Condition) (rows : List Row) → keeps (Some (joined c cs)) rows ≡ (keeps (Some c) rows && nodes.holds_all cs rows)
+keeps_all : (c : Condition) (cs : List Condition) (rows : List Row) → keeps (Some (joined c cs)) rows ≡ (keeps (Some c) rows && valued.holds_all cs rows)
 keeps_all c [] rows = and_true (keeps (Some c) rows)
 keeps_all c (d ∷ ds) rows =
     keeps_all (And c d) ds rows
-    ∙ ap (λ b. b && nodes.holds_all ds rows) (keeps-and c d rows)
-    ∙ and_assoc (keeps (Some c) rows) (keeps (Some d) rows) (nodes.holds_all ds rows)
+    ∙ ap (λ b. b && valued.holds_all ds rows) (keeps-and c d rows)
+    ∙ and_assoc (keeps (Some c) rows) (keeps (Some d) rows) (valued.holds_all ds rows)
 
 filter_same : (p q : Row → Bool) → ((r : Row) → p r ≡ q r) → (rows : List Row) → filter p rows ≡ filter q rows
 filter_same p q h [] = refl
 filter_same p q h (r ∷ rows) = ap₂ (λ b rest. cond b (r ∷ rest) rest) (h r) (filter_same p q h rows)
 
-selects : (c : Condition) (cs : List Condition) (rows : List Row) → select_value (joined c cs) rows ≡ nodes.selected (c ∷ cs) rows
-selects c cs rows = filter_same (λ r. keeps (Some (joined c cs)) (r ∷ [])) (λ r. nodes.holds_all (c ∷ cs) (r ∷ [])) (λ r. keeps_all c cs (r ∷ [])) rows
+selects : (c : Condition) (cs : List Condition) (rows : List Row) → select_value (joined c cs) rows ≡ valued.selected (c ∷ cs) rows
+selects c cs rows = filter_same (λ r. keeps (Some (joined c cs)) (r ∷ [])) (λ r. valued.holds_all (c ∷ cs) (r ∷ [])) (λ r. keeps_all c cs (r ∷ [])) rows
 
 truths : (n : ℕ) (c : Condition) (cs : List Condition) → truths_needed c ≤ n → AllByRecursion (λ d. truths_needed d + 1 ≤ n) cs → truths_needed (joined c cs) ≤ n
 truths n c [] h k = h
@@ -61,7 +61,7 @@ columns_same : (places : List ℕ) (row : Row) → columns_in places row ≡ map
 columns_same [] row = refl
 columns_same (k ∷ places) row = ap (λ vs. value_at row k ∷ vs) (columns_same places row)
 
-projects : (places : List ℕ) (rows : List Row) → project_value places rows ≡ nodes.shaped_rows (Listed (columns_at places)) rows
+projects : (places : List ℕ) (rows : List Row) → project_value places rows ≡ valued.shaped_rows (Listed (columns_at places)) rows
 projects places [] = refl
 projects places (r ∷ rows) = ap₂ (λ (x : Row) (xs : List Row). x ∷ xs) (columns_same places r) (projects places rows)
 
@@ -69,19 +69,19 @@ by_same : (by : List ℕ) → columns_of (map column_at by) ≡ columns_at by
 by_same [] = refl
 by_same (k ∷ by) = ap (λ (cs : List SourceColumn). at k ∷ cs) (by_same by)
 
-groups : (by : List ℕ) (items : List ListItem) (rows : List Row) → grouped (grouping by items) rows ≡ nodes.shaped_rows (Grouped (columns_at by) (items_of items)) rows
+groups : (by : List ℕ) (items : List ListItem) (rows : List Row) → grouped (grouping by items) rows ≡ valued.shaped_rows (Grouped (columns_at by) (items_of items)) rows
 groups by items rows = ap (λ (cs : List SourceColumn). shaped (Grouped cs (items_of items)) (map (λ r. r ∷ []) rows)) (by_same by)
 
 -- ---- Join
-fits_same : (keys : List Key) (l r : Row) → pairs.fits (map key_pair keys) l r ≡ nodes.fits (keys_of keys) l r
+fits_same : (keys : List Key) (l r : Row) → pairs.fits (map key_pair keys) l r ≡ valued.fits (keys_of keys) l r
 fits_same [] l r = refl
 fits_same (k ∷ keys) l r = ap (λ b. known_equal (value_at l k.left) (value_at r k.right) && b) (fits_same keys l r)
 
-matches_same : (keys : List Key) (l : Row) (rs : List Row) → flat_map (pairs.pair (map key_pair keys) l) rs ≡ flat_map (nodes.pair (keys_of keys) l) rs
+matches_same : (keys : List Key) (l : Row) (rs : List Row) → flat_map (pairs.pair (map key_pair keys) l) rs ≡ flat_map (valued.pair (keys_of keys) l) rs
 matches_same keys l [] = refl
 matches_same keys l (r ∷ rs) = ap₂ (λ b (rest : List Row). cond b ((l ++ r) ∷ []) [] ++ rest) (fits_same keys l r) (matches_same keys l rs)
 
-joins : (keys : List Key) (ls rs : List Row) → pairs.joined (map key_pair keys) ls rs ≡ nodes.joined (keys_of keys) ls rs
+joins : (keys : List Key) (ls rs : List Row) → pairs.joined (map key_pair keys) ls rs ≡ valued.joined (keys_of keys) ls rs
 joins keys [] rs = refl
 joins keys (l ∷ ls) rs = ap₂ (λ (xs : List Row) (rest : List Row). xs ++ rest) (matches_same keys l rs) (joins keys ls rs)
 
@@ -89,12 +89,12 @@ joins keys (l ∷ ls) rs = ap₂ (λ (xs : List Row) (rest : List Row). xs ++ re
 pub record KindsMeanTheirNodes : Type 0 where
   -- Select's steps mean the conditions joined by And, which hold where all of them do
   pub steps : (c : Condition) (cs : List Condition) → AllByRecursion IsOfOneSource (c ∷ cs) → Mean (all_steps (c ∷ cs)) (joined c cs)
-  pub selects : (c : Condition) (cs : List Condition) (rows : List Row) → select_value (joined c cs) rows ≡ nodes.selected (c ∷ cs) rows
+  pub selects : (c : Condition) (cs : List Condition) (rows : List Row) → select_value (joined c cs) rows ≡ valued.selected (c ∷ cs) rows
   -- they need no more truths than n where the first condition needs no more, and each further one fewer
   pub truths : (n : ℕ) (c : Condition) (cs : List Condition) → truths_needed c ≤ n → AllByRecursion (λ d. truths_needed d + 1 ≤ n) cs → truths_needed (joined c cs) ≤ n
-  pub projects : (places : List ℕ) (rows : List Row) → project_value places rows ≡ nodes.shaped_rows (Listed (columns_at places)) rows
-  pub groups : (by : List ℕ) (items : List ListItem) (rows : List Row) → grouped (grouping by items) rows ≡ nodes.shaped_rows (Grouped (columns_at by) (items_of items)) rows
-  pub joins : (keys : List Key) (ls rs : List Row) → pairs.joined (map key_pair keys) ls rs ≡ nodes.joined (keys_of keys) ls rs
+  pub projects : (places : List ℕ) (rows : List Row) → project_value places rows ≡ valued.shaped_rows (Listed (columns_at places)) rows
+  pub groups : (by : List ℕ) (items : List ListItem) (rows : List Row) → grouped (grouping by items) rows ≡ valued.shaped_rows (Grouped (columns_at by) (items_of items)) rows
+  pub joins : (keys : List Key) (ls rs : List Row) → pairs.joined (map key_pair keys) ls rs ≡ valued.joined (keys_of keys) ls rs
 
 pub kinds_mean : KindsMeanTheirNodes
 kinds_mean = record { steps = mean; selects = selects; truths = truths; projects = projects; groups = groups; joins = joins }

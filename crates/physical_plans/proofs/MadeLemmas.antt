@@ -2,7 +2,7 @@
 use Rattle.std.proofs.Common.{◌≡◌, ◌∙◌, ◌<◌, ◌+◌, ℕ, suc, List, [], ◌∷◌, ◌++◌, length, take, get_or, ap, sym, subst, arith}
 use Rattle.std.proofs.Math.Seq.{take-suc}
 use Rattle.values.specs.declared.resolved.Window.{Window}
-use Rattle.operators.specs.Operators.{PlainOperator}
+use Rattle.operators.specs.Ready.{PlainOperator}
 use Rattle.plan.specs.declared.node.Node.{Node}
 use Rattle.plan.specs.declared.node.Node.TheVariants.{Window as Source, Select, Join, Project, Group, Distinct, ToStream}
 use Rattle.physical_plans.specs.Beginnings.{AreMade, HasMakeableKind, IsMade, IsMakeable}

@@ -1,9 +1,10 @@
 -- The operators of a plan at their beginning.
-use Rattle.std.specs.Prelude.{ℕ, ◌+◌, ◌≡◌, ◌<◌, ◌≤◌, Option, Some, None, false, List, [], ◌∷◌, ◌++◌}
-use Rattle.std.specs.Prelude.{map, length, get_or}
+use Rattle.std.specs.Prelude.{ℕ, ◌+◌, ◌≡◌, ◌≤◌, None, false, List, [], ◌∷◌, ◌++◌, map, length}
+use Rattle.std.specs.Prelude.{get_or}
 use Rattle.std.specs.List.{AllByRecursion}
 use Rattle.values.specs.declared.TheConstants.{MAX_COLUMNS}
 use Rattle.values.specs.Resolved.{condition_of, window_of}
+use Rattle.values.specs.declared.reach.Reach.TheVariants.{All}
 use Rattle.values.specs.declared.resolved.ListItem.{ListItem}
 use Rattle.values.specs.declared.resolved.Window.{Window}
 use Rattle.values.specs.declared.resolved.Window.TheVariants as window
@@ -16,10 +17,9 @@ use Rattle.row_nodes.specs.Steps.{IsOfOneSource}
 use Rattle.windows.specs.Windows.{Begins, IsFormed, WindowState}
 use Rattle.turn.specs.declared.kinds.Kind.{Kind}
 use Rattle.turn.specs.declared.kinds.Kind.TheVariants as kind
-use Rattle.operators.specs.Inboxes.{IsInboxWithin, entries_in, is_fed}
-use Rattle.operators.specs.Operators.{PlainOperator}
+use Rattle.operators.specs.Inboxes.{IsInboxWithin, is_fed}
+use Rattle.operators.specs.Ready.{PlainOperator, entries_in}
 use Rattle.operators.specs.declared.inboxes.Inbox.{Inbox}
-use Rattle.operators.specs.declared.inboxes.Inbox.TheVariants.{Between}
 use Rattle.operators.specs.declared.states.State.{State}
 use Rattle.operators.specs.declared.states.State.TheVariants as state
 use Rattle.plan.specs.declared.node.Key.{Key}
@@ -27,6 +27,7 @@ use Rattle.plan.specs.declared.node.Node.{Node}
 use Rattle.plan.specs.declared.node.Node.TheVariants.{Window as Source, Select, Join, Project}
 use Rattle.plan.specs.declared.node.Node.TheVariants.{Group, Distinct, ToStream}
 use Rattle.physical_plans.specs.Conjuncts.{all_steps}
+use Rattle.physical_plans.specs.Nothing.{nothing_waits}
 
 -- HOW MANY COLUMNS the rows of an operator have, from
 -- those of the sources and of the operators before it
@@ -48,7 +49,7 @@ widths_of vs nodes = widths_from vs [] nodes
 
 -- WHAT IT DOES
 abbrev pub window_at : List Window → ℕ → Window
-window_at ws s = get_or ws s window.Unbounded
+window_at ws s = get_or ws s (window.Instants All)
 
 abbrev pub grouping : List ℕ → List ListItem → GroupBy
 grouping by items = record { by = map column_at by; items = items }
@@ -88,10 +89,6 @@ StateStarts ws vs widths (ToStream i op) s =
       whole = [];
       last = None;
     })
-
--- WHAT WAITS FOR IT: at a window what its source's log has of the query's input, else nothing
-abbrev pub nothing_waits : Inbox
-nothing_waits = Between (record { entries = []; begins = []; pieces = 0 })
 
 pub record ReadsSource (place start : ℕ) (i : Inbox) : Type 0 where
   pub entries : (log : Closed) → entries_in i log ≡ log_entries place start log

@@ -1,3 +1,4 @@
 pub mod Conjuncts
 pub mod Wiring
 pub mod Beginnings
+pub mod Nothing

@@ -3,7 +3,8 @@ ghost use Rattle.std.specs.Prelude.{◌≡◌, ◌≤◌, IfOk, OnOk, All, get_o
 ghost use Rattle.std.specs.Arc.{arc_value};
 ghost use Rattle.physical_plans.specs.Beginnings.{AreMade, HaveNarrowRows, InboxStarts, IsMade};
 ghost use Rattle.physical_plans.specs.Beginnings.{IsMakeable, ReadsSource, kind_made};
-ghost use Rattle.physical_plans.specs.Beginnings.{nothing_waits, width_made, widths_from};
+ghost use Rattle.physical_plans.specs.Beginnings.{width_made, widths_from};
+ghost use Rattle.physical_plans.specs.Nothing.{nothing_waits};
 ghost use Rattle.physical_plans.specs.Beginnings.{widths_of};
 
 use crate::holdings::state_made;

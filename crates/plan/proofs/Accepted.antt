@@ -16,7 +16,7 @@ use Rattle.names.specs.declared.fault.ResolveFault.{ResolveFault}
 use Rattle.std.specs.List.{AllByRecursion}
 use Rattle.plan.specs.Scope.{InScope, ItemInScope, ShapeInScope, ConditionInScope, Scoped}
 use Rattle.plan.specs.Scope.{Tables}
-use Rattle.plan.specs.Nodes.{plan_value}
+use Rattle.plan.specs.Values.{plan_value}
 use Rattle.plan.specs.Build.{plan_of}
 use Rattle.plan.proofs.Whole.{plan-body}
 use Rattle.values.specs.Row.{Row}

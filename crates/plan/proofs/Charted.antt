@@ -18,7 +18,8 @@ use Rattle.envelope.specs.Chart.{full_size}
 use Rattle.plan.specs.Nodes.{Key, Node, Window, Select, Join, Project, Group, Distinct, ToStream}
 use Rattle.plan.specs.Build.{source_nodes, tops, join_nodes, joins_of, top_of, rest_nodes, rest_top, shape_node, end_nodes, nodes_over, all_alone, key_placed, moved, placed, plan_of}
 use Rattle.plan.specs.Chart.{measure, default_of, is_measure, root_size, is_bad_chart, measure_of, measures_of}
-use Rattle.plan.specs.Paths.{onward, path_from, windows, measures_on, HaveCharts}
+use Rattle.plan.specs.Paths.{onward, path_from, windows, measures_on}
+use Rattle.plan.specs.Charts.{HaveCharts}
 use Rattle.plan.specs.Views.{nodes_of}
 use Rattle.plan.specs.declared.chart.Measure.{Measure}
 use Rattle.plan.specs.declared.node.Node as code

@@ -5,7 +5,8 @@ use Rattle.values.specs.Bag.{distinct}
 use Rattle.values.specs.Condition.{SourceColumn, Condition}
 use Rattle.values.specs.Relation.{Shape, Listed, Grouped}
 use Rattle.values.specs.Answers.{StreamOperator}
-use Rattle.plan.specs.Nodes.{Key, Node, selected, shaped_rows, node_value, values_of, last_of, plan_value}
+use Rattle.plan.specs.Nodes.{Key, Node}
+use Rattle.plan.specs.Values.{selected, shaped_rows, node_value, values_of, last_of, plan_value}
 use Rattle.plan.specs.Build.{source_nodes, tops, joins_of, top_of, rest_nodes, rest_top, shape_node, end_nodes, nodes_over}
 use Rattle.std.specs.List.{AllByRecursion}
 use Rattle.plan.proofs.Joins.{join_all}

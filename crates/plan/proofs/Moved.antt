@@ -6,7 +6,7 @@ use Rattle.values.specs.Bag.{distinct}
 use Rattle.values.specs.Condition.{SourceColumn, Operand, Field, Number, Condition, Compared, Not, And, Or, field, operand, compared, not3, and3, or3, truth, is_known_true}
 use Rattle.values.specs.Relation.{ListItem, Key, CountAll, Of, Shape, Listed, Grouped, numbers, aggregated, item_value, key_of, keys_of, group_row, shaped}
 use Rattle.names.specs.Split.{columns_of, columns_of_operand}
-use Rattle.plan.specs.Nodes.{holds_all}
+use Rattle.plan.specs.Values.{holds_all}
 use Rattle.plan.specs.Build.{operand_moved, moved, item_moved}
 use Rattle.std.specs.List.{AllByRecursion}
 use Rattle.plan.proofs.Lists.{each-left, each-right, map-filter}

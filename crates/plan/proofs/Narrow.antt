@@ -2,7 +2,8 @@
 use Rattle.std.proofs.Common.{◌≡◌, ℕ, ◌+◌, ◌<◌, List, map, drop, length, sum, get_or, ap, ◌∙◌}
 use Rattle.std.proofs.lemmas.List.{drop_more}
 use Rattle.std.proofs.lemmas.List.Sums.{sum_by-cons}
-use Rattle.cql_reader.specs.Views.{name_of, sources_of}
+use Rattle.cql_reader.specs.Views.{sources_of}
+use Rattle.cql_reader.specs.Names.{name_of}
 use Rattle.cql_reader.specs.declared.query.WrittenSource.{WrittenSource}
 use Rattle.names.specs.Catalog.{Stream, columns_in}
 use Rattle.names.specs.Matches.{tables}

@@ -5,7 +5,8 @@ use Rattle.values.specs.Bag.{distinct}
 use Rattle.values.specs.Condition.{SourceColumn, Condition}
 use Rattle.values.specs.Relation.{Shape, Listed, Grouped}
 use Rattle.values.specs.Answers.{StreamOperator}
-use Rattle.plan.specs.Nodes.{Key, Node, Window, Select, Join, Project, Group, Distinct, ToStream, selected, joined, shaped_rows, node_value, values_of}
+use Rattle.plan.specs.Nodes.{Key, Node, Window, Select, Join, Project, Group, Distinct, ToStream}
+use Rattle.plan.specs.Values.{selected, joined, shaped_rows, node_value, values_of}
 use Rattle.plan.specs.Build.{source_nodes, tops, join_nodes, joins_top, joins_of, top_of, rest_nodes, rest_top, shape_node, end_nodes, nodes_over}
 use Rattle.std.specs.List.{AllByRecursion}
 use Rattle.plan.proofs.Values.{values-stay, at_end, tops-below}

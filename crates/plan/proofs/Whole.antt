@@ -8,7 +8,7 @@ use Rattle.values.specs.Condition.{SourceColumn, Condition, field, keeps}
 use Rattle.values.specs.Relation.{Shape, Listed, Grouped, ListItem, Key, CountAll, Of, combinations, shaped}
 use Rattle.values.specs.Answers.{Resolved, body}
 use Rattle.names.specs.Split.{JoinKey, all_conjuncts, columns_of, own, keys, remains, remaining, own_of, join_keys, join_keys_of}
-use Rattle.plan.specs.Nodes.{holds_all, selected, shaped_rows, plan_value}
+use Rattle.plan.specs.Values.{holds_all, selected, shaped_rows, plan_value}
 use Rattle.plan.specs.Build.{alone, placed, moved, tops, plan_of}
 use Rattle.std.specs.List.{AllByRecursion}
 use Rattle.plan.specs.Scope.{InScope, ItemInScope, ShapeInScope, ConditionInScope, Scoped, Tables}

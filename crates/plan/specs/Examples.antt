@@ -6,7 +6,8 @@ use Rattle.values.specs.Answers.{Istream}
 use Rattle.cql_reader.specs.Query.{Query, All}
 use Rattle.names.specs.Examples.{declared, three, partly, of, query}
 use Rattle.names.specs.Resolved.{resolved, widths}
-use Rattle.plan.specs.Nodes.{Node, Window, Select, Join, Project, ToStream, plan_value}
+use Rattle.plan.specs.Nodes.{Node, Window, Select, Join, Project, ToStream}
+use Rattle.plan.specs.Values.{plan_value}
 use Rattle.plan.specs.Build.{at, plan_of}
 use Rattle.plan.specs.Faults.{first_fault}
 use Rattle.plan.specs.declared.fault.PlanFault.TheVariants.{BadChart}

@@ -1,3 +1,4 @@
+-- TO BELIEVE: the theorem rests on these definitions, and no proof can check them.
 -- The texts of faults.
 use Rattle.std.specs.Prelude.{ℕ, List, codes}
 use Rattle.names.specs.FaultTexts as names

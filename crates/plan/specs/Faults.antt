@@ -1,3 +1,4 @@
+-- TO BELIEVE: the theorem rests on these definitions, and no proof can check them.
 -- The first fault of a query with its chart.
 use Rattle.std.specs.Prelude.{Bool, true, false, ℤ, Option, Some, None, List, length}
 use Rattle.cql_reader.specs.Query as syntax

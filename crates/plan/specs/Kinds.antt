@@ -1,3 +1,4 @@
+-- TO BELIEVE: the theorem rests on these definitions, and no proof can check them.
 -- What the operators do, and the names of that.
 use Rattle.std.specs.Prelude.{ℕ, List, codes}
 use Rattle.plan.specs.Nodes as nodes

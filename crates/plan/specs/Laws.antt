@@ -6,7 +6,7 @@ use Rattle.cql_reader.specs.Query.{Query}
 use Rattle.names.specs.Catalog.{Stream}
 use Rattle.names.specs.Resolved.{resolved, widths}
 use Rattle.names.specs.Faults.{first_fault}
-use Rattle.plan.specs.Nodes.{plan_value}
+use Rattle.plan.specs.Values.{plan_value}
 use Rattle.plan.specs.Build.{plan_of}
 use Rattle.plan.specs.Scope.{Tables}
 

@@ -1,4 +1,5 @@
 pub mod Nodes
+pub mod Values
 pub mod Build
 pub mod Scope
 pub mod Kinds
@@ -9,5 +10,6 @@ pub mod FaultTexts
 pub mod Told
 pub mod Laws
 pub mod Paths
+pub mod Charts
 pub mod Examples
 pub mod PathExamples

@@ -1,10 +1,11 @@
+-- TO BELIEVE: the theorem rests on these definitions, and no proof can check them.
 -- The paths of a plan, and the slopes of its operators
 -- (Chain: Babcock, Babu, Datar and Motwani, SIGMOD 2003).
-use Rattle.std.specs.Prelude.{ℕ, suc, ◌+◌, ◌<◌, ◌==◌, Bool, true, false, cond, ◌||◌, List, [], ◌∷◌}
-use Rattle.std.specs.Prelude.{map, fold, length, slice_index_or}
+use Rattle.std.specs.Prelude.{ℕ, suc, ◌+◌, ◌==◌, Bool, true, false, cond, ◌||◌, List, [], ◌∷◌, map}
+use Rattle.std.specs.Prelude.{fold, length, slice_index_or}
 use Rattle.std.specs.List.{range_with_len}
 use Rattle.envelope.specs.declared.chart.Point.{Point}
-use Rattle.envelope.specs.Chart.{full_size, IsChart}
+use Rattle.envelope.specs.Chart.{full_size}
 use Rattle.envelope.specs.Fraction.{Fraction, fraction}
 use Rattle.envelope.specs.Formula.{greater, slopes_of}
 use Rattle.plan.specs.Nodes.{Node, Window, Select, Join, Project, Group, Distinct, ToStream}
@@ -57,12 +58,6 @@ measures_on measures path = map (λ i. slice_index_or measures i (measure 0 0)) 
 abbrev pub points_of : List Measure → List ℕ → List Point
 points_of measures path = record { t = 0; s = full_size }
     ∷ points_after 0 (measures_on measures path)
-
--- the path of each source, from its window to the root, has a chart
-abbrev pub HaveCharts : List Node → List Measure → Type 0
-HaveCharts nodes measures =
-    (k : ℕ) → k < length (windows 0 nodes)
-    → IsChart (points_of measures (path_from nodes (slice_index_or (windows 0 nodes) k 0)))
 
 abbrev pub nought : Fraction
 nought = fraction 0 1

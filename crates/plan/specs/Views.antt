@@ -1,7 +1,8 @@
 -- The operators of the code as those of the definitions.
 use Rattle.std.specs.Prelude.{◌≡◌, ℕ, List, ◌++◌, map}
 use Rattle.values.specs.Condition as conditions
-use Rattle.values.specs.Resolved.{items_of, operator_of}
+use Rattle.values.specs.Resolved.{items_of}
+use Rattle.values.specs.StreamOperators.{operator_of}
 use Rattle.names.specs.Views.{conditions_of}
 use Rattle.plan.specs.Nodes as nodes
 use Rattle.plan.specs.Build.{at}

@@ -1,5 +1,5 @@
 //! Holds the operators of a query, and what each costs.
-ghost use Rattle.plan.specs.Paths.{HaveCharts};
+ghost use Rattle.plan.specs.Charts.{HaveCharts};
 ghost use Rattle.plan.specs.Views.{nodes_of};
 
 use crate::chart::Measure;

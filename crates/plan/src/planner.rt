@@ -5,9 +5,8 @@ ghost use Rattle.std.specs.Option.{option_copied};
 ghost use Rattle.values.specs.declared.TheConstants.{MAX_COLUMNS};
 ghost use Rattle.values.specs.Resolved.{resolved_of};
 ghost use Rattle.cql_reader.specs.Views.{query_of};
-ghost use Rattle.cql_reader.specs.WellFormed.{IsWellFormed};
 ghost use Rattle.names.specs.Resolved.{resolved, streams, widths};
-ghost use Rattle.names.specs.Sound.{has_narrow_rows, all_slide, all_within};
+ghost use Rattle.names.specs.Sound.{has_narrow_rows, all_within};
 ghost use Rattle.plan.specs.Build.{plan_of};
 ghost use Rattle.plan.specs.Chart.{given_by, measures_of};
 ghost use Rattle.plan.specs.Faults.{first_fault};
@@ -59,8 +58,6 @@ pub fn plan(
     ensures known { IfOk result (λ plan.
         AllByRecursion (λ s. s < length catalog.now) plan.streams.items) }
     ensures rows { IfOk result (λ plan. has_narrow_rows plan.meaning.shape ≡ true) }
-    ensures slides { IfOk result (λ plan. IsWellFormed (query_of query.now)
-        → all_slide plan.meaning.windows.items ≡ true) }
     ensures within { IfOk result (λ plan. all_within plan.meaning.windows.items plan.widths.items
         ≡ true) }
     ensures err { IfErr result (λ error.

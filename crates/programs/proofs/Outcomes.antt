@@ -28,7 +28,9 @@ use Rattle.served.specs.Serving as of_seat
 use Rattle.served.specs.Serving.{PoolDrains}
 use Rattle.wire.specs.declared.fault.ScriptFault.{ScriptFault}
 use Rattle.wire.specs.declared.fault.ScriptFault.TheVariants.{Read, Write, Memory}
-use Rattle.programs.specs.Run.{Answers, IsAlone, IsKept, MayRunOut, IsWrong, Leads, Shares, SharesSettling, status_of, turn_of}
+use Rattle.programs.specs.Run.{Answers, IsAlone, IsKept, IsWrong, Leads, Shares, SharesSettling}
+use Rattle.programs.specs.Run.{turn_of}
+use Rattle.programs.specs.Ends.{MayRunOut, status_of}
 
 pub says_begins : (N : Type 0) (w : World) (source old new : Option (List ℕ)) → Scripts (λ text written. Says N (requests_of text) (script w text) written) source old new
     → Scripts (λ text written. Begins N (requests_of text) (script w text) written) source old new

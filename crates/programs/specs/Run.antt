@@ -1,3 +1,4 @@
+-- TO BELIEVE: the theorem rests on these definitions, and no proof can check them.
 -- What the programs do.
 use Rattle.std.specs.Prelude.{◌≡◌, ◌≢◌, ℕ, Bool, true, false, List, [], ◌∷◌, Option, None, ◌⊎◌}
 use Rattle.std.specs.Prelude.{codes}
@@ -18,8 +19,8 @@ use Rattle.hub.specs.Ledgers.{PlainLedger}
 use Rattle.hub.specs.Reached.{IsReachedBy}
 use Rattle.hub.specs.Seats.{IsAudited, PlainSeat, opened}
 use Rattle.hub.specs.Steps.{OpensAt}
-use Rattle.served.specs.Errors.{IsTold, accept_line, audit_line, bind_line, close_line}
-use Rattle.served.specs.Errors.{memory_line, thread_line}
+use Rattle.served.specs.Errors.{IsTold, accept_line, audit_line, bind_line, close_line, memory_line}
+use Rattle.served.specs.Errors.{thread_line}
 use Rattle.served.specs.Serving as of_seat
 
 -- At the status 0 the sink took the script's text of what the source gave, and else a prefix of it.
@@ -32,11 +33,6 @@ Answers wanted world status source old new =
     (script world text) written) source old new)
     × Scripts (λ text written. Begins wanted (requests_of text) (script world text) written)
     source old new
-
--- Some engine of this type has no numbers for turns left: whether the one that ran
--- had any is not said. Of a type whose engines always have numbers it never holds.
-abbrev pub MayRunOut : {E : Type 0} → (E → Type 0) → Type 0
-MayRunOut {E = E} has_numbers = (last : E) × (¬ has_numbers last)
 
 -- The requests lead from the world `first` to the world `now`:
 -- at the status 0 all of them, and else those carried out.
@@ -109,12 +105,6 @@ turn_of words = number_or 256 (run_text (codes "turn") words)
 abbrev pub IsWrong : Kinds → Type 0
 IsWrong kinds = (kinds ≢ []) × (¬ IsAmong DisplayHelp kinds) × (¬ IsAmong DisplayVersion kinds)
 
--- the status after a fault
-abbrev pub status_of : ScriptFault → ℕ
-status_of Read = 1
-status_of Write = 1
-status_of Memory = 3
-
 -- what is said of a fault
 abbrev pub fault_line : ScriptFault → List ℕ
 fault_line Read = codes "cqlrun: read failed\n"
@@ -124,14 +114,6 @@ fault_line Memory = codes "cqlrun: out of memory\n"
 -- what is said if the history and the seat differ at the end
 abbrev pub differs_line : List ℕ
 differs_line = codes "cqlrun: close failed\n"
-
--- what is said of a word that is not UTF-8
-abbrev pub no_text_line : List ℕ
-no_text_line = codes "cqlrun: a word is not UTF-8\n"
-
--- the same of `cqld`
-abbrev pub no_server_text_line : List ℕ
-no_server_text_line = codes "cqld: a word is not UTF-8\n"
 
 -- a sink was given some text
 abbrev pub ToldSome : {E : Type 0} → (E → Option (List ℕ)) → (E → ℕ) → E → E → Type 0

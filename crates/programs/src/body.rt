@@ -11,7 +11,8 @@ ghost use Rattle.command_lines.specs.CommandLine.{refusals, run_text};
 ghost use Rattle.served.specs.Errors.{IsTold};
 ghost use Rattle.served.specs.Serving.{PoolDrains};
 ghost use Rattle.programs.specs.Run.{Answers, AsksWorkers, Differs, Failed, IsOfRun, IsOfWrong};
-ghost use Rattle.programs.specs.Run.{IsWrong, Leads, MayRunOut, Shares, SharesSettling};
+ghost use Rattle.programs.specs.Run.{IsWrong, Leads, Shares, SharesSettling};
+ghost use Rattle.programs.specs.Ends.{MayRunOut};
 ghost use Rattle.programs.specs.Run.{ToldSome, fault_line};
 ghost use Rattle.programs.specs.Run.{turn_of};
 

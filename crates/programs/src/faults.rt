@@ -2,8 +2,8 @@
 ghost use Rattle.std.specs.Prelude.{◌≡◌, ◌≢◌};
 ghost use Rattle.std.specs.IoError.{error_kind};
 ghost use Rattle.served.specs.Errors.{IsTold, memory_line};
-ghost use Rattle.programs.specs.Run.{differs_line, fault_line, no_server_text_line, no_text_line};
-ghost use Rattle.programs.specs.Run.{status_of};
+ghost use Rattle.programs.specs.Run.{differs_line, fault_line};
+ghost use Rattle.programs.specs.Ends.{no_server_text_line, no_text_line, status_of};
 
 use served::{lack_server_memory, tell};
 use std::io::{Error, ErrorKind};

@@ -12,7 +12,7 @@ use Rattle.turn.specs.declared.excerpts.Excerpt.{Excerpt}
 use Rattle.turn.specs.declared.excerpts.Excerpt.TheVariants as near
 use Rattle.turn.specs.declared.kinds.Kind.{Kind}
 use Rattle.turn.specs.declared.kinds.Kind.TheVariants as kind
-use Rattle.operators.specs.Operators.{PlainOperator, waiting}
+use Rattle.operators.specs.Ready.{PlainOperator, waiting}
 use Rattle.operators.specs.Runs as runs
 use Rattle.operators.specs.Runs.{GivesFirst, HasPutTo, HasRunBelow, HasRunBelowLess, HasRunRoot, HasRunRootLess, IsGiven, IsInHand, MayPut, MayPutFirst, MayRun, Stops, is_root}
 use Rattle.operators.specs.States.{near_of}
@@ -20,7 +20,8 @@ use Rattle.operators.specs.declared.runs.Refused.{Refused}
 use Rattle.operators.specs.declared.runs.Refused.TheVariants.{Before, Within}
 use Rattle.physical_plans.specs.declared.wiring.Wire.{Wire}
 use Rattle.reference.specs.Machine.{Stream}
-use Rattle.laws_queries.specs.Queries.{MayFeed, MayFinish, PlainQuery, change_at_first, operator_at}
+use Rattle.laws_queries.specs.Queries.{MayFeed, MayFinish, change_at_first}
+use Rattle.laws_queries.specs.Plain.{PlainQuery, operator_at}
 use Rattle.laws_queries.specs.Steps.{IsFirst}
 use Rattle.query_runtime.specs.Runs.{CanRun, HasRun, HasRunLess, IsRunItem, KeepsOuts, OnlyAtBoth}
 use Rattle.query_runtime.specs.Turns.{CanFeed, CanPut, HasAnswered, HasFed, HasPut, OnlyAt, log_of, wire_at}

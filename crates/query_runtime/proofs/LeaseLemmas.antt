@@ -8,7 +8,7 @@ use Rattle.op_queue.specs.declared.item.Item.{Item}
 use Rattle.turn.specs.Turns.{FitsKind}
 use Rattle.turn.specs.declared.excerpts.Excerpt.{Excerpt}
 use Rattle.operators.specs.Inboxes.{cut_of}
-use Rattle.operators.specs.Operators.{PlainOperator, inbox_of, waiting}
+use Rattle.operators.specs.Ready.{PlainOperator, inbox_of, waiting}
 use Rattle.operators.specs.States.{near_of}
 use Rattle.laws_queries.specs.Steps.{IsFirst}
 use Rattle.laws_queries.specs.Queries.{MayFinish}

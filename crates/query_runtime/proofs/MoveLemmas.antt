@@ -4,11 +4,11 @@ use Rattle.std.proofs.lemmas.List.{get_or-append-add, get_or-set_same, get_or_ap
 use Rattle.std.specs.Prelude.{⊤, Result, Ok, Err}
 use Rattle.column.specs.declared.batch.Side.{Side}
 use Rattle.op_queue.specs.Logs.{Closed}
-use Rattle.operators.specs.Operators.{PlainOperator}
+use Rattle.operators.specs.Ready.{PlainOperator}
 use Rattle.operators.specs.Runs.{HasRunBelowLess, Stops}
 use Rattle.operators.specs.declared.runs.Refused.{Refused}
 use Rattle.operators.specs.declared.runs.Refused.TheVariants.{Before, Within}
-use Rattle.laws_queries.specs.Queries.{no_operator, operator_at}
+use Rattle.laws_queries.specs.Plain.{no_operator, operator_at}
 
 -- the list with other operators at k of its front and first in its back
 abbrev both : List PlainOperator → List PlainOperator → ℕ → PlainOperator → PlainOperator → List PlainOperator

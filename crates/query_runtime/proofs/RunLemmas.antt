@@ -6,23 +6,24 @@ use Rattle.std.proofs.lemmas.List.FromFn.{get_or-map-range_with_len, length-map-
 use Rattle.values.specs.Row.{Row}
 use Rattle.column.specs.declared.batch.Side.{Side}
 use Rattle.column.specs.declared.batch.Side.TheVariants.{Left, Right}
-use Rattle.op_queue.specs.Entries.{Entry}
-use Rattle.op_queue.specs.Items.{front_of}
+use Rattle.op_queue.specs.Entries.{Entry, front_of}
 use Rattle.op_queue.specs.Logs.{Closed}
 use Rattle.op_queue.specs.declared.item.Item.{Item}
 use Rattle.turn.specs.Turns.{Put, Answered}
 use Rattle.turn.specs.declared.kinds.Kind.TheVariants as kind
 use Rattle.operators.specs.Inboxes.{IsInboxWithin}
-use Rattle.operators.specs.Operators.{IsFed, IsFinished, PlainOperator, first_ready, front_instant, inbox_of, ready, ready_at, waiting}
+use Rattle.operators.specs.Operators.{IsFed, IsFinished}
 use Rattle.operators.specs.Runs.{is_root}
-use Rattle.operators.specs.States.{usable}
+use Rattle.operators.specs.Ready.{PlainOperator, first_ready, front_instant, inbox_of, ready, ready_at, usable, waiting}
 use Rattle.physical_plans.specs.Wiring.{wire_from}
 use Rattle.physical_plans.specs.declared.wiring.Wire.{Wire}
 use Rattle.plan.specs.Nodes as plan
 use Rattle.reference.specs.Machine.{Machine, Registered}
-use Rattle.laws_dataflow.specs.Plans.{below_root}
+use Rattle.laws_dataflow.specs.Roots.{below_root}
 use Rattle.laws_queries.specs.Laws.{RootsRun, TurnsRun}
-use Rattle.laws_queries.specs.Queries.{HasInboxes, IsAnswered, IsPlainQuery, IsRunning, IsTurned, MayFeed, MayFinish, PlainQuery, change_at_first, log_at, node_at, operator_at, source_of, stream_log}
+use Rattle.laws_queries.specs.Queries.{HasInboxes, IsAnswered, IsPlainQuery, IsRunning, IsTurned}
+use Rattle.laws_queries.specs.Queries.{MayFeed, MayFinish, change_at_first}
+use Rattle.laws_queries.specs.Plain.{PlainQuery, log_at, node_at, operator_at, source_of, stream_log}
 use Rattle.laws_queries.specs.Rooms.{IsBounded}
 use Rattle.laws_queries.specs.Steps.{IsFirst, outs_at_first}
 use Rattle.laws_queries.proofs.NodeLemmas.{roots_run, turns_run}

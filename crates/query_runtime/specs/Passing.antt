@@ -2,7 +2,7 @@
 use Rattle.std.specs.Prelude.{ℕ, ◌≡◌, ◌<◌, List, length}
 use Rattle.operators.specs.Passing.{IsPassed, IsQuiet, MayPass}
 use Rattle.reference.specs.Machine.{Stream}
-use Rattle.laws_queries.specs.Queries.{PlainQuery, operator_at}
+use Rattle.laws_queries.specs.Plain.{PlainQuery, operator_at}
 use Rattle.query_runtime.specs.Turns.{HasOperator, log_of}
 
 -- the streams have what its operators read

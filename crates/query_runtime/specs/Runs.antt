@@ -5,11 +5,13 @@ use Rattle.op_queue.specs.Logs.{Closed}
 use Rattle.op_queue.specs.declared.item.Item.{Item}
 use Rattle.turn.specs.Turns.{Answered, Outs, Put}
 use Rattle.operators.specs.Inboxes.{IsInboxWithin, all_entries}
-use Rattle.operators.specs.Operators.{KeepsBatches, PlainOperator, inbox_of}
+use Rattle.operators.specs.Operators.{KeepsBatches}
+use Rattle.operators.specs.Ready.{PlainOperator, inbox_of}
 use Rattle.operators.specs.Runs.{is_root}
 use Rattle.operators.specs.States.{near_of}
 use Rattle.reference.specs.Machine.{Stream}
-use Rattle.laws_queries.specs.Queries.{PlainQuery, change_at_first, operator_at}
+use Rattle.laws_queries.specs.Queries.{change_at_first}
+use Rattle.laws_queries.specs.Plain.{PlainQuery, operator_at}
 use Rattle.laws_queries.specs.Steps.{IsFirst, outs_at_first}
 use Rattle.query_runtime.specs.Turns.{CanLease, CanPut, HasFinished, HasPut, IsLeased, log_of}
 use Rattle.query_runtime.specs.Turns.{wire_at}

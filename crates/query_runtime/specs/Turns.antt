@@ -16,9 +16,9 @@ use Rattle.turn.specs.declared.outcomes.Change.{Change}
 use Rattle.turn.specs.declared.outcomes.Outputs.{Outputs}
 use Rattle.turn.specs.declared.outcomes.Outputs.TheVariants.{Answers, Items}
 use Rattle.operators.specs.Inboxes.{IsInboxWithin, cut_of}
-use Rattle.operators.specs.Operators.{IsFed, IsFinished, KeepsBatches, PlainOperator, inbox_of}
-use Rattle.operators.specs.Operators.{waiting}
-use Rattle.operators.specs.States.{Takes, near_of, usable}
+use Rattle.operators.specs.Operators.{IsFed, IsFinished, KeepsBatches}
+use Rattle.operators.specs.States.{Takes, near_of}
+use Rattle.operators.specs.Ready.{PlainOperator, inbox_of, usable, waiting}
 use Rattle.plan.specs.Nodes as plan
 use Rattle.plan.specs.Views.{nodes_of}
 use Rattle.plan.specs.declared.node.Node.{Node}
@@ -26,7 +26,8 @@ use Rattle.physical_plans.specs.Beginnings.{AreMade, widths_of}
 use Rattle.physical_plans.specs.Wiring.{wires_of}
 use Rattle.physical_plans.specs.declared.wiring.Wire.{Wire}
 use Rattle.reference.specs.Machine.{Stream}
-use Rattle.laws_queries.specs.Queries.{MayFeed, MayFinish, PlainQuery, operator_at, stream_log}
+use Rattle.laws_queries.specs.Queries.{MayFeed, MayFinish}
+use Rattle.laws_queries.specs.Plain.{PlainQuery, operator_at, stream_log}
 use Rattle.laws_queries.specs.Steps.{IsFirst}
 
 -- ITS OPERATORS

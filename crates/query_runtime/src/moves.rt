@@ -5,7 +5,8 @@ ghost use Rattle.operators.specs.Operators.{IsFed, IsFinished, KeepsBatches};
 ghost use Rattle.operators.specs.Passing.{IsPassed, IsQuiet};
 ghost use Rattle.operators.specs.Runs.{GivesFirst, HasRunBelow, HasRunBelowLess, HasRunRoot};
 ghost use Rattle.operators.specs.Runs.{HasRunRootLess, MayPutFirst, MayRun, Stops};
-ghost use Rattle.laws_queries.specs.Queries.{MayFeed, operator_at, stream_log};
+ghost use Rattle.laws_queries.specs.Queries.{MayFeed};
+ghost use Rattle.laws_queries.specs.Plain.{operator_at, stream_log};
 ghost use Rattle.query_runtime.specs.Runs.{OnlyAtBoth};
 ghost use Rattle.query_runtime.specs.Turns.{CanFinish, CanLease, IsLeased, OnlyAt};
 
@@ -23,10 +24,7 @@ pub(crate) fn log_at(streams: &Streams, stream: u64) -> &Log
     requires { stream < length streams.now }
     ensures { result.now ≡ stream_log streams.now stream }
 {
-    match streams.log(stream) {
-        Some(log) => log,
-        None => unreachable!(),
-    }
+    streams.all()[stream as usize].log()
 }
 
 /// Returns what is first on a side of an operator, and the excerpt that a turn with it needs.

@@ -4,15 +4,15 @@ ghost use Rattle.std.specs.Prelude.{IfOk, OnErr, OnOk};
 ghost use Rattle.std.specs.Arc.{arc_value};
 ghost use Rattle.turn.specs.Turns.{outs_in};
 ghost use Rattle.operators.specs.Inboxes.{all_entries};
-ghost use Rattle.operators.specs.Operators.{KeepsBatches, ready, waiting};
+ghost use Rattle.operators.specs.Operators.{KeepsBatches};
 ghost use Rattle.operators.specs.Runs.{Stops, is_root};
-ghost use Rattle.operators.specs.States.{last_in};
+ghost use Rattle.operators.specs.Ready.{last_in, ready, waiting};
 ghost use Rattle.column.specs.declared.batch.Side.TheVariants.{Left, Right};
 ghost use Rattle.physical_plans.specs.Beginnings.{HaveNarrowRows, IsMakeable, widths_of};
 ghost use Rattle.reference.specs.CallViews.{handed_of};
 ghost use Rattle.reference.specs.Inputs.{are_signed};
 ghost use Rattle.reference.specs.World.{handed};
-ghost use Rattle.laws_queries.specs.Queries.{operator_at};
+ghost use Rattle.laws_queries.specs.Plain.{operator_at};
 ghost use Rattle.operators.specs.Passing.{MayPass};
 ghost use Rattle.query_runtime.specs.Passing.{AreQuiet, HasOperators, HavePassed, MayPassAll};
 ghost use Rattle.query_runtime.specs.Runs.{CanRun, HasRun, HasRunLess};
@@ -55,7 +55,7 @@ pub struct RunningQuery {
 }
 
 impl Model for RunningQuery {
-    ghost use Rattle.laws_queries.specs.Queries.{PlainQuery};
+    ghost use Rattle.laws_queries.specs.Plain.{PlainQuery};
 
     ghost Value = { PlainQuery };
 

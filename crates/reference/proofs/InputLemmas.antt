@@ -11,7 +11,8 @@ use Rattle.reference.specs.World.{handed}
 use Rattle.arrayvec.specs.ArrayVec.{ArrayVec}
 use Rattle.values.specs.Row.{Row}
 use Rattle.values.specs.Perm.{same}
-use Rattle.values.specs.Window.{Element, Window, numbered, plain, input_of, window_rows}
+use Rattle.values.specs.Window.{Element, Window, numbered, input_of, window_rows}
+use Rattle.values.specs.Plain.{plain}
 use Rattle.values.specs.Answers.{Resolved, shown_at, answers, answers_at}
 use Rattle.values.proofs.Renumber.{increasing-numbered, increasing-filter, window_rows-plain}
 use Rattle.values.specs.Tables.{SameTables}

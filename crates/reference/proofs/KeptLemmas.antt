@@ -7,7 +7,8 @@ use Rattle.std.proofs.lemmas.Bool.{eqb-true}
 use Rattle.std.proofs.lemmas.List.{take-append-le, drop-append-le, take_all, drop_all, map-append, take-append-drop, length-map, length-take-le}
 use Rattle.arrayvec.specs.ArrayVec.{ArrayVec}
 use Rattle.values.specs.Row.{Row}
-use Rattle.values.specs.Window.{Element, numbered, plain, input_of}
+use Rattle.values.specs.Window.{Element, numbered, input_of}
+use Rattle.values.specs.Plain.{plain}
 use Rattle.values.proofs.Closed.{numbered-append}
 use Rattle.reference.specs.Appended.{kept_of, instants_of, values_of}
 use Rattle.reference.specs.Commands.{elements_from}

@@ -3,7 +3,7 @@ use Rattle.std.proofs.Common.{◌≡◌, ◌∙◌, ℕ, List, Result, Ok, Err, 
 use Rattle.std.specs.Prelude.{IfOk}
 use Rattle.cql_reader.specs.Fault as text
 use Rattle.cql_reader.specs.Query as syntax
-use Rattle.cql_reader.specs.Reading.{reading}
+use Rattle.cql_reader.specs.Judging.{reading}
 use Rattle.names.specs.Catalog as catalogs
 use Rattle.names.specs.Resolved.{widths}
 use Rattle.plan.specs.declared.operators.Plan.{Plan}

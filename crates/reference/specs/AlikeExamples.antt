@@ -1,7 +1,8 @@
 -- A machine and its opening, which no command tells apart.
 use Rattle.std.specs.Prelude.{◌≡◌, ℕ, ℤ, false, [], ◌∷◌, List, map, Option, Some, None, pos, refl}
 use Rattle.values.specs.Row.{Row}
-use Rattle.values.specs.Window.{Element, Range}
+use Rattle.values.specs.declared.reach.Reach.TheVariants.{Last}
+use Rattle.values.specs.Window.{Element, Instants}
 use Rattle.values.specs.Relation.{Listed}
 use Rattle.values.specs.Answers.{Resolved, Istream}
 use Rattle.reference.specs.declared.fault.Fault.TheVariants.{Late, StreamFull}
@@ -17,7 +18,7 @@ num n = Some (pos n)
 -- Select Istream(*) From S [Range 1], of a stream S(a)
 abbrev lists_a : Resolved
 lists_a = record {
-  windows = Range 1 ∷ [];
+  windows = Instants (Last 1) ∷ [];
   condition = None;
   shape = Listed (record { source = 0; column = 0 } ∷ []);
   is_distinct =

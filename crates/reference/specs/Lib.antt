@@ -6,6 +6,7 @@ pub mod Status
 pub mod StatusViews
 pub mod Replies
 pub mod Steps
+pub mod Looks
 pub mod NewRows
 pub mod Kept
 pub mod CallViews
@@ -27,3 +28,4 @@ pub mod Alike
 pub mod AlikeExamples
 pub mod WhereOf
 pub mod WhereOfExamples
+pub mod Settled

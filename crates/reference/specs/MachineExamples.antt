@@ -3,7 +3,8 @@ use Rattle.std.proofs.Common.{arith}
 use Rattle.std.specs.Prelude.{◌≡◌, ℕ, false, true, [], ◌∷◌, Option, Some, None, Ok}
 use Rattle.std.specs.Prelude.{Err, ℤ, pos, negsuc, refl}
 use Rattle.cql_reader.specs.Lexis as words
-use Rattle.values.specs.Window.{Range}
+use Rattle.values.specs.declared.reach.Reach.TheVariants.{Last}
+use Rattle.values.specs.Window.{Instants}
 use Rattle.values.specs.Condition.{SourceColumn}
 use Rattle.values.specs.Relation.{Listed}
 use Rattle.values.specs.Answers.{Resolved, Istream}
@@ -75,7 +76,7 @@ value_before_instant = refl
 -- what Select Istream(*) From S [Now] means
 abbrev lists_a : Resolved
 lists_a = record {
-  windows = Range 0 ∷ [];
+  windows = Instants (Last 0) ∷ [];
   condition = None;
   shape = Listed (a ∷ []);
   is_distinct = false;

@@ -1,3 +1,4 @@
+-- TO BELIEVE: the theorem rests on these definitions, and no proof can check them.
 -- What anyone may ask of the streams and queries: how far each of them is.
 use Rattle.std.specs.Prelude.{ℕ, ℤ, pos, ◌-ℤ◌, Bool, false, cond, List, [], ◌∷◌, length, map}
 use Rattle.values.specs.Row.{Row}

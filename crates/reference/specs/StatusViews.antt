@@ -1,7 +1,8 @@
+-- TO BELIEVE: the theorem rests on these definitions, and no proof can check them.
 -- What the code answers of streams and queries, as what is defined of them.
 use Rattle.std.specs.Prelude.{map, string_bytes}
-use Rattle.cql_reader.specs.Views.{name_of}
-use Rattle.names.specs.Views.{names_of}
+use Rattle.cql_reader.specs.Names.{name_of}
+use Rattle.names.specs.Names.{names_of}
 use Rattle.reference.specs.Status as defined
 use Rattle.reference.specs.declared.status.QueryStatus.{QueryStatus}
 use Rattle.reference.specs.declared.status.StreamStatus.{StreamStatus}

@@ -1,3 +1,4 @@
+-- TO BELIEVE: the theorem rests on these definitions, and no proof can check them.
 -- The steps of the machine.
 use Rattle.std.specs.Prelude.{ℕ, ℤ, ◌≡◌, ◌≤◌, ⊤, Some, None, List, length, take, drop, nat_abs}
 use Rattle.values.specs.Row.{Row}

@@ -5,12 +5,12 @@ ghost use Rattle.std.specs.Option.{option_copied};
 ghost use Rattle.cql_reader.specs.Coded.{Tells};
 ghost use Rattle.cql_reader.specs.Fault as text;
 ghost use Rattle.cql_reader.specs.Query as syntax;
-ghost use Rattle.cql_reader.specs.Reading.{reading};
+ghost use Rattle.cql_reader.specs.Judging.{reading};
 ghost use Rattle.cql_reader.specs.Views.{query_of};
 ghost use Rattle.cql_reader.specs.WellFormed.{IsWellFormed};
 ghost use Rattle.names.specs.Catalog as catalogs;
 ghost use Rattle.names.specs.Resolved.{widths};
-ghost use Rattle.names.specs.Sound.{has_narrow_rows, all_slide};
+ghost use Rattle.names.specs.Sound.{has_narrow_rows};
 ghost use Rattle.plan.specs.Chart.{given_by};
 ghost use Rattle.plan.specs.Faults.{first_fault};
 ghost use Rattle.plan.specs.Told.{Told};
@@ -39,7 +39,6 @@ pub fn find_plan(
         (found_of catalog.now (given_by (option_copied chart.entry)) (reading text.now)) result }
     ensures fits { IfOk result (λ p. has_narrow_rows p.meaning.shape ≡ true) }
     ensures sources { IfOk result (λ p. length p.meaning.windows.items ≡ length p.streams.items) }
-    ensures slides { IfOk result (λ p. all_slide p.meaning.windows.items ≡ true) }
     ensures widths { IfOk result (λ p. (query : syntax.Query) → reading text.now ≡ Ok query
         → p.widths.items ≡ widths query catalog.now) }
 {
@@ -62,7 +61,6 @@ fn plan_over(
         (found_by catalog.now (given_by (option_copied chart.entry)) (query_of query.now)) result }
     ensures fits { IfOk result (λ p. has_narrow_rows p.meaning.shape ≡ true) }
     ensures sources { IfOk result (λ p. length p.meaning.windows.items ≡ length p.streams.items) }
-    ensures slides { IfOk result (λ p. all_slide p.meaning.windows.items ≡ true) }
     ensures widths { IfOk result (λ p. p.widths.items ≡ widths (query_of query.now) catalog.now) }
 {
     match plan(alloc, query, catalog, chart) {

@@ -3,7 +3,7 @@ ghost use Rattle.std.specs.Prelude.{◌≡◌, ◌≤◌, ◌<◌, ℕ, Bool, Li
 ghost use Rattle.values.specs.Row.{Row};
 ghost use Rattle.values.specs.Tables.{SameTables};
 ghost use Rattle.values.specs.Arrivals.{Longer, AllCameAlike};
-ghost use Rattle.values.specs.Needs.{WindowsShowTheSame};
+ghost use Rattle.values.specs.Enough.{WindowsShowTheSame};
 ghost use Rattle.values.specs.Window.{Element, Window, numbered};
 ghost use Rattle.values.specs.Answers.{Resolved, answers, shown_at};
 

@@ -12,6 +12,7 @@ mod fault;
 mod finding;
 mod laws;
 mod limits;
+mod look;
 mod named;
 mod new_rows;
 mod place;
@@ -39,6 +40,7 @@ pub use limits::{
     MAX_ROWS_OF_THREE, MAX_STREAM_COLUMNS, MAX_STREAM_ROWS, MAX_STREAMS, MAX_TAKE, MAX_TURN,
     rows_of_each,
 };
+pub use look::{Look, Seen};
 pub use named::{count_undropped, query_place, stream_place};
 pub use names::ResolveFault;
 pub use new_rows::{NewRows, value_of};

@@ -1,7 +1,7 @@
 //! Keeps a registered query and the answers that wait at it.
 ghost use Rattle.std.specs.Prelude.{◌≡◌, ◌≤◌, ◌<◌, ◌+◌, ◌^◌, length, true};
 ghost use Rattle.std.specs.VecDeque.{deque_len};
-ghost use Rattle.names.specs.Sound.{has_narrow_rows, all_slide};
+ghost use Rattle.names.specs.Sound.{has_narrow_rows};
 ghost use Rattle.reference.specs.Views.{pairs_of};
 ghost use Rattle.reference.specs.Inputs.{are_signed};
 
@@ -42,7 +42,6 @@ pub(crate) struct StandingQuery {
     fresh: VecDeque<(u64, Row)>,
     ghost fits: { has_narrow_rows plan.meaning.shape ≡ true },
     ghost sources: { length plan.meaning.windows.items ≡ length places.items },
-    ghost slides: { all_slide plan.meaning.windows.items ≡ true },
     ghost begins: { first ≤ 1099511627777 },
     ghost reaches: { upto ≤ 1099511627777 },
     ghost counts: { taken + deque_len waiting < 2 ^ 64 },

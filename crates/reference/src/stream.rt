@@ -1,12 +1,13 @@
 //! Keeps a declared stream and what came to it.
 ghost use Rattle.std.specs.Prelude.{◌≡◌, ◌≤◌, ◌*◌, [], None, OnOk, OnErr, IfOk, IfSome, length};
 ghost use Rattle.std.specs.Prelude.{◌+◌, ◌∷◌, ◌++◌, ◌&&◌, nat_le};
-ghost use Rattle.values.specs.Window.{input_of, plain, numbered};
+ghost use Rattle.values.specs.Window.{input_of, numbered};
+ghost use Rattle.values.specs.Plain.{plain};
 ghost use Rattle.reference.specs.Commands.{append_tests, heartbeat_tests, appended, closed_to};
 ghost use Rattle.reference.specs.Commands.{catalog_of};
 ghost use Rattle.names.specs.Faults.{first_of};
-ghost use Rattle.names.specs.Views.{names_of};
-ghost use Rattle.cql_reader.specs.Views.{name_of};
+ghost use Rattle.names.specs.Names.{names_of};
+ghost use Rattle.cql_reader.specs.Names.{name_of};
 ghost use Rattle.reference.specs.Inputs.{ShowsSame};
 ghost use Rattle.reference.specs.Kept.{kept_in};
 ghost use Rattle.reference.specs.Status.{stream_status};
@@ -45,9 +46,9 @@ pub(crate) struct Stream {
 
 impl Model for Stream {
     ghost use Rattle.std.specs.Prelude.{◌≡◌, ◌≤◌, ◌*◌, length};
-    ghost use Rattle.cql_reader.specs.Views.{name_of};
+    ghost use Rattle.cql_reader.specs.Names.{name_of};
     ghost use Rattle.names.specs.Faults.{first_of};
-    ghost use Rattle.names.specs.Views.{names_of};
+    ghost use Rattle.names.specs.Names.{names_of};
     ghost use Rattle.reference.specs.Machine as machine;
     ghost use Rattle.reference.specs.Kept.{kept_in};
     ghost use Rattle.values.specs.Window.{numbered};

@@ -6,7 +6,7 @@ use Rattle.std.specs.Ordering.{match_ordering, ordering_reverse}
 use Rattle.std.specs.List.Sorted.{IsStrictlySortedBy}
 use Rattle.std.specs.Map.{keys_of}
 use Rattle.std.specs.BTreeMap.{insert_entry}
-use Rattle.values.specs.Bag.{IsExactOrder}
+use Rattle.values.specs.Orders.{IsExactOrder}
 use Rattle.row_bags.proofs.SpreadLemmas.{first_two, sorted-tail}
 
 module _ {K : Type 0} (cmp : K → K → Ordering) (o : IsExactOrder cmp) where

@@ -3,7 +3,9 @@ use Rattle.std.proofs.Common.{◌≡◌, ℕ, zero, suc, ◌+◌, ◌<◌, ◌�
 use Rattle.std.specs.declared.cmp.Ordering.{Ordering}
 use Rattle.std.specs.declared.cmp.Ordering.TheVariants.{Less, Equal, Greater}
 use Rattle.std.specs.Ordering.{is_eq, is_gt}
-use Rattle.values.specs.Bag.{IsExactOrder, is_same, is_above, copies, without, bag_minus, insert_in_order, in_order}
+use Rattle.values.specs.Bag.{is_same, is_above, copies, without, bag_minus, insert_in_order}
+use Rattle.values.specs.Bag.{in_order}
+use Rattle.values.specs.Orders.{IsExactOrder}
 use Rattle.values.proofs.Bags.{same_is, same_itself, copies-without_none, in_order_with, in_order-same}
 use Rattle.op_queue.specs.Signed.{weigh, Same}
 use Rattle.row_bags.specs.Bags.{is_in}

@@ -5,7 +5,8 @@ use Rattle.std.specs.List.Sorted.{IsPermutation, IsSorted}
 use Rattle.std.proofs.lemmas.Cmp.{on_total}
 use Rattle.arrayvec.specs.ArrayVec.{ArrayVec}
 use Rattle.values.specs.Row.{row_cmp}
-use Rattle.values.specs.Bag.{IsExactOrder, insert_in_order, in_order, without}
+use Rattle.values.specs.Bag.{insert_in_order, in_order, without}
+use Rattle.values.specs.Orders.{IsExactOrder}
 use Rattle.values.proofs.Order.{row_order}
 use Rattle.values.proofs.Bags.{without-map, in_order-sorted, in_order-map}
 use Rattle.row_bags.specs.Bags.{array_cmp, rows_of, is_in}

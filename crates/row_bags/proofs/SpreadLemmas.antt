@@ -11,7 +11,8 @@ use Rattle.std.specs.Map.{lookup, remove_entry, set_value, keys_of, values_of}
 use Rattle.std.specs.BTreeMap.{insert_entry, is_at}
 use Rattle.std.proofs.lemmas.List.{length-replicate}
 use Rattle.std.proofs.lemmas.List.Elements.{All-head, All-tail}
-use Rattle.values.specs.Bag.{IsExactOrder, insert_in_order, without}
+use Rattle.values.specs.Bag.{insert_in_order, without}
+use Rattle.values.specs.Orders.{IsExactOrder}
 use Rattle.row_bags.specs.Bags.{spread, is_in}
 
 pub by_ordering : {P : Type 0} (o : Ordering) → (o ≡ Less → P) → (o ≡ Equal → P) → (o ≡ Greater → P) → P

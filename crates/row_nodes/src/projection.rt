@@ -2,7 +2,7 @@
 ghost use Rattle.std.specs.Prelude.{◌≡◌, ◌<◌, ◌≤◌, ◌++◌, IfOk, OnErr, OnOk, length};
 ghost use Rattle.std.specs.Bool.{OnFalse, OnTrue};
 ghost use Rattle.std.specs.List.{flat_map};
-ghost use Rattle.op_queue.specs.Entries.{IsForward};
+ghost use Rattle.op_queue.specs.Forward.{IsForward};
 ghost use Rattle.op_queue.specs.Items.{IsFrontPart, entries_of};
 ghost use Rattle.op_queue.specs.Queues.{HasGained};
 ghost use Rattle.op_queue.specs.declared.item.Item.{Item as PlainItem};

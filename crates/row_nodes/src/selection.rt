@@ -5,7 +5,7 @@ ghost use Rattle.std.specs.List.{flat_map};
 ghost use Rattle.column.specs.Bits.{word_count};
 ghost use Rattle.column.specs.Rows.{width};
 ghost use Rattle.lane_kernels.specs.Steps.{StepsFit};
-ghost use Rattle.op_queue.specs.Entries.{IsForward};
+ghost use Rattle.op_queue.specs.Forward.{IsForward};
 ghost use Rattle.op_queue.specs.Items.{IsFrontPart, entries_of};
 ghost use Rattle.op_queue.specs.Queues.{HasGained};
 ghost use Rattle.op_queue.specs.declared.item.Item.{Item as PlainItem};

@@ -7,7 +7,8 @@ use Rattle.std.specs.Ordering.{MatchOrdering, bool_cmp, ordering_then}
 use Rattle.std.specs.declared.cmp.Ordering.{Ordering}
 use Rattle.std.specs.declared.cmp.Ordering.TheVariants.{Less, Equal, Greater}
 use Rattle.envelope.specs.Fraction.{NoGreater, denominator}
-use Rattle.run_queue.specs.Slots.{slot_cmp, AreIdle, IsSteepest, first_of}
+use Rattle.run_queue.specs.Slots.{slot_cmp, first_of}
+use Rattle.run_queue.specs.Changes.{AreIdle, IsSteepest}
 use Rattle.run_queue.specs.declared.slots.Slot.{Slot}
 
 -- behind an idle slot all are idle

@@ -13,7 +13,8 @@ use Rattle.std.specs.declared.cmp.Ordering.{Ordering}
 use Rattle.std.specs.declared.cmp.Ordering.TheVariants.{Less, Equal, Greater}
 use Rattle.column.specs.declared.batch.Side.{Side}
 use Rattle.run_queue.specs.Places.{in_order, place_cmp, winner_at, IsBetween, IsFound, IsKept, IsMissing, IsPlayed, IsPlayedBeside}
-use Rattle.run_queue.specs.Slots.{slot_cmp, changed, first_of, put, with_next, without, without_query, Stands}
+use Rattle.run_queue.specs.Slots.{slot_cmp, first_of}
+use Rattle.run_queue.specs.Changes.{changed, put, with_next, without, without_query, Stands}
 use Rattle.run_queue.specs.declared.slots.Slot.{Slot}
 use Rattle.run_queue.proofs.OrderLemmas.{alike, all_ordered, comes_once, filtered, has_not, has_ordered, inserted, ordered, removed, written, written_itself}
 use Rattle.run_queue.proofs.PlaceLemmas.{all_at, all_removed, differs, insert_ordered, one_place, others_differ, set_ordered}

@@ -10,7 +10,8 @@ use Rattle.std.specs.Ordering.{is_eq, match_ordering}
 use Rattle.std.specs.declared.cmp.Ordering.{Ordering}
 use Rattle.std.specs.declared.cmp.Ordering.TheVariants.{Less, Equal, Greater}
 use Rattle.run_queue.specs.Places.{in_order, place_cmp}
-use Rattle.run_queue.specs.Slots.{slot_cmp, put, has, without}
+use Rattle.run_queue.specs.Slots.{slot_cmp}
+use Rattle.run_queue.specs.Changes.{put, has, without}
 use Rattle.run_queue.specs.declared.slots.Slot.{Slot}
 use Rattle.run_queue.proofs.PlaceLemmas.{others_differ}
 use Rattle.run_queue.proofs.SlotLemmas.{higher, lower, none_ordered, put_ordered, same, slots_total}

@@ -9,7 +9,8 @@ use Rattle.std.specs.Ordering.{is_eq, match_ordering, ordering_reverse}
 use Rattle.std.specs.declared.cmp.Ordering.{Ordering}
 use Rattle.std.specs.declared.cmp.Ordering.TheVariants.{Less, Equal, Greater}
 use Rattle.envelope.specs.FractionLaws.{fractions_total}
-use Rattle.run_queue.specs.Slots.{slot_cmp, put, has, without, without_query}
+use Rattle.run_queue.specs.Slots.{slot_cmp}
+use Rattle.run_queue.specs.Changes.{put, has, without, without_query}
 use Rattle.run_queue.specs.declared.slots.Slot.{Slot}
 
 pub none_ordered : IsStrictlySortedBy slot_cmp []

@@ -4,7 +4,8 @@ use Rattle.std.specs.declared.cmp.Ordering.TheVariants.{Equal, Less}
 use Rattle.column.specs.declared.batch.Side.TheVariants.{Left, Right}
 use Rattle.envelope.specs.Fraction.{fraction}
 use Rattle.run_queue.specs.Places.{in_order, place_cmp, winner_at, won}
-use Rattle.run_queue.specs.Slots.{changed, first_of, put, slot, slot_cmp, without_query}
+use Rattle.run_queue.specs.Slots.{first_of, slot, slot_cmp}
+use Rattle.run_queue.specs.Changes.{changed, put, without_query}
 use Rattle.run_queue.specs.declared.slots.Slot.{Slot}
 
 -- the slope goes before the instant, the instant before the numbers,

@@ -1,3 +1,4 @@
 pub mod Slots
+pub mod Changes
 pub mod Places
 pub mod Examples

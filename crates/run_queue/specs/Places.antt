@@ -6,7 +6,8 @@ use Rattle.std.specs.List.Sorted.{IsStrictlySortedBy}
 use Rattle.std.specs.Ordering.{is_lt, nat_cmp, ordering_then}
 use Rattle.std.specs.declared.cmp.Ordering.{Ordering}
 use Rattle.std.specs.declared.cmp.Ordering.TheVariants.{Less, Equal, Greater}
-use Rattle.run_queue.specs.Slots.{put, slot_cmp}
+use Rattle.run_queue.specs.Slots.{slot_cmp}
+use Rattle.run_queue.specs.Changes.{put}
 use Rattle.run_queue.specs.declared.slots.Slot.{Slot}
 
 -- the lower number of a query first, then the lower number

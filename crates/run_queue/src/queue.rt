@@ -3,8 +3,8 @@ ghost use Rattle.std.specs.Prelude.{◌≡◌, ◌-◌, ◌<◌, ◌≤◌, [], 
 ghost use Rattle.std.specs.Prelude.{MatchOption, OnErr, OnOk, length, vec_capacity, vec_len};
 ghost use Rattle.run_queue.specs.Places.{IsBetween, IsFound, IsKept, IsMissing, in_order};
 ghost use Rattle.run_queue.specs.Places.{place_cmp};
-ghost use Rattle.run_queue.specs.Slots.{AreIdle, IsSteepest, Stands, changed, first_of, put};
-ghost use Rattle.run_queue.specs.Slots.{without_query};
+ghost use Rattle.run_queue.specs.Slots.{first_of};
+ghost use Rattle.run_queue.specs.Changes.{AreIdle, IsSteepest, Stands, changed, put, without_query};
 ghost use Rattle.std.specs.List.{HoldsAt, insert, remove};
 ghost use Rattle.std.specs.declared.cmp.Ordering.TheVariants.{Greater, Less};
 ghost use Rattle.std.specs.List.Sorted.{IsStrictlySortedBy};

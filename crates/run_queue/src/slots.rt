@@ -4,7 +4,8 @@ ghost use Rattle.std.specs.declared.cmp.Ordering.TheVariants.{Equal, Less};
 ghost use Rattle.std.specs.Ordering.{is_gt};
 ghost use Rattle.envelope.specs.Fraction.{fraction_cmp};
 ghost use Rattle.run_queue.specs.Places.{place_cmp};
-ghost use Rattle.run_queue.specs.Slots.{goes_on, later_cmp, slot, slot_cmp, with_next};
+ghost use Rattle.run_queue.specs.Slots.{slot, slot_cmp};
+ghost use Rattle.run_queue.specs.Changes.{goes_on, later_cmp, with_next};
 
 use column::Side;
 use envelope::Slope;

@@ -14,16 +14,16 @@ use Rattle.reference.specs.Replies.{Reply}
 use Rattle.reference.specs.declared.fault.Fault.{Fault}
 use Rattle.reference.specs.declared.fault.Fault.TheVariants.{BadLimit, OutOfMemory, TooManyLeases}
 use Rattle.reference.specs.World.{IsTurnSize}
-use Rattle.wire.specs.Calls.{Call, declare, register, append, heartbeat, drain, take_rows, drop_query, forget, peek_rows, show_plan, show_status, call_of}
-use Rattle.wire.specs.Exchanges.{Leads}
+use Rattle.wire.specs.Calls.{Call, declare, register, append, heartbeat, drain, take_rows, drop_query, forget, look, call_of}
+use Rattle.wire.specs.Answering.{Leads}
 use Rattle.wire.specs.Printed.{Answer, done, refused, unread}
-use Rattle.wire.specs.Requests.{Reads}
+use Rattle.wire.specs.Reading.{Reads}
 use Rattle.wire.specs.Script.{done_of}
 use Rattle.wire.specs.declared.request.Request.{Request}
 use Rattle.wire.specs.declared.request.WireFault.{WireFault}
 use Rattle.wire.specs.declared.request.WireFault.TheVariants.{NotJson, BadRequest, LineTooLong}
 use Rattle.wire.specs.declared.request.WireFault.TheVariants as in_line
-use Rattle.workers.specs.Lacks.{WasFull}
+use Rattle.workers.specs.Full.{WasFull}
 use Rattle.workers.specs.declared.pool.TheConstants.{MAX_WORKERS}
 use Rattle.served.specs.Serving.{Carries, CarriesNamed, DropsNamed, Forgets, IsPool, Keeps, MaySettle, PoolDrains, Replies, Runs, RunsSettling, Serves, SettlesAround, WasAtRest, WasIdle, asks_forget, forgets, is_done, shown}
 
@@ -159,9 +159,7 @@ keeps_served R seat drain answer seat' s = keeps_same seat seat' s.1
 keeps_served R seat (take_rows query limit) answer seat' s = keeps_named query_named query _ _ seat answer seat' s
 keeps_served R seat forget answer seat' s = keeps_same seat seat' s.1
 keeps_served R seat (drop_query query) answer seat' s = keeps_dropped query seat answer seat' s
-keeps_served R seat (show_plan query) answer seat' s = keeps_same seat seat' s.1
-keeps_served R seat (peek_rows query limit) answer seat' s = keeps_same seat seat' s.1
-keeps_served R seat show_status answer seat' s = keeps_same seat seat' s.1
+keeps_served R seat (look asked) answer seat' s = keeps_same seat seat' s.1
 
 keeps_replied : (R : Answer → Type 0) (seat : PlainSeat) (request : Result Call WireFault) (answer : Answer) (seat' : PlainSeat) → Replies R seat request answer seat' → Keeps seat seat'
 keeps_replied R seat (Ok call) answer seat' (inl s) = keeps_served R seat call answer seat' s

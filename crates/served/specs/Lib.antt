@@ -1,4 +1,5 @@
 pub mod Serving
+pub mod Numbers
 pub mod Crossing
 pub mod Errors
 pub mod Doors

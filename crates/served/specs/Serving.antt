@@ -1,43 +1,33 @@
+-- TO BELIEVE: the theorem rests on these definitions, and no proof can check them.
 -- What a seat of a hub answers the requests of a script, while other seats call as well.
-use Rattle.std.specs.Prelude.{◌≡◌, ◌≢◌, ◌≤◌, ℕ, ℤ, pos, Bool, true, false, ◌&&◌, List, ◌++◌}
-use Rattle.std.specs.Prelude.{Option, Some, None, Result, Ok, Err, ◌⊎◌, ⊤}
-use Rattle.envelope.specs.Fraction.{Fraction}
+use Rattle.std.specs.Prelude.{◌≡◌, ◌≢◌, ◌≤◌, ℕ, Bool, true, false, ◌&&◌, List, ◌++◌, Option, Some}
+use Rattle.std.specs.Prelude.{None, Result, Ok, Err, ◌⊎◌, ⊤}
 use Rattle.histories.specs.Histories.{Told}
 use Rattle.hub.specs.Seats.{PlainSeat}
 use Rattle.hub.specs.Steps as hub
-use Rattle.hub.specs.Steps.{PlainLocked, FindsQuery, Hands, Rests, SeesPeek, SeesSlopes, SeesStatus}
-use Rattle.hub.specs.Steps.{Spurned, SpurnedNamed, Took, TookNamed}
+use Rattle.hub.specs.Steps.{PlainLocked, FindsQuery, Hands, Rests, SeesLook, Spurned, SpurnedNamed}
+use Rattle.hub.specs.Steps.{Took, TookNamed}
 use Rattle.leases.specs.declared.leased.Leased.TheVariants.{Idle}
-use Rattle.plan.specs.declared.node.NodeKind.{NodeKind}
 use Rattle.reference.specs.Commands.{Command, Declare, Register, Append, Heartbeat, Take, Drop}
+use Rattle.reference.specs.Looks.{Look, Seen}
 use Rattle.reference.specs.Machine.{Machine, query_named, stream_named}
 use Rattle.reference.specs.Replies as replies
 use Rattle.reference.specs.Replies.{Reply}
-use Rattle.reference.specs.StatusViews.{status_in}
 use Rattle.reference.specs.declared.fault.Fault.{Fault}
 use Rattle.reference.specs.declared.fault.Fault.TheVariants.{BadLimit, OutOfMemory, TooManyLeases}
 use Rattle.reference.specs.declared.fault.Fault.TheVariants.{UnknownQuery, UnknownStream}
-use Rattle.reference.specs.declared.status.Status.{Status}
 use Rattle.wire.specs.Calls.{Call, declare, register, append, heartbeat, drain, take_rows}
-use Rattle.wire.specs.Calls.{drop_query, forget, peek_rows, show_plan, show_status}
+use Rattle.wire.specs.Calls.{drop_query, forget, look}
 use Rattle.wire.specs.Exchanges as exchanges
-use Rattle.wire.specs.Printed.{Answer, done, rows, operators, refused, status, unread}
-use Rattle.wire.specs.declared.request.Request.{Request}
+use Rattle.wire.specs.Printed.{Answer, done, rows, refused, unread}
+use Rattle.wire.specs.Script.{seen_or}
 use Rattle.wire.specs.declared.request.Request.TheVariants as request
 use Rattle.wire.specs.declared.request.WireFault.{WireFault}
 use Rattle.wire.specs.declared.request.WireFault.TheVariants as in_line
-use Rattle.workers.specs.Lacks.{WasFull}
+use Rattle.workers.specs.Full.{WasFull}
 use Rattle.workers.specs.declared.pool.TheConstants.{MAX_WORKERS}
 
 -- ---- one request
-
--- the first instant of a stream, the instant of a heartbeat, or the limit of a take or a peek
-abbrev pub number_in : Request → ℤ
-number_in (request.Stream name columns start) = start
-number_in (request.Heartbeat stream at) = at
-number_in (request.Take query limit) = limit
-number_in (request.Peek query limit) = limit
-number_in r = pos 0
 
 -- what a request is answered whose command has this reply in the history
 abbrev pub shown : Reply → Answer
@@ -81,36 +71,11 @@ DropsNamed name seat answer seat' =
     ⊎ (((l : PlainLocked) × FindsQuery l name None) × (answer ≡ refused UnknownQuery)
     × (seat' ≡ seat))
 
--- what a look at the slopes of a query's operators is answered
-abbrev pub Looks : ℕ → Answer → Type 0
-Looks n (operators found) = (l : PlainLocked) × SeesSlopes (λ seen. seen) l n (Ok found)
-Looks n (refused fault) = (l : PlainLocked)
-    × SeesSlopes (λ (seen : List (NodeKind × Fraction)). seen) l n (Err fault)
-Looks n answer = ⊥
-
-abbrev pub LooksNamed : List ℕ → Answer → Type 0
-LooksNamed name answer =
-    ((n : ℕ) × ((l : PlainLocked) × FindsQuery l name (Some n)) × Looks n answer)
-    ⊎ (((l : PlainLocked) × FindsQuery l name None) × (answer ≡ refused UnknownQuery))
-
--- what a look at the answers that a take would hand out is answered
-abbrev pub Peeks : ℕ → ℤ → Answer → Type 0
-Peeks n limit (rows found) = (l : PlainLocked) × SeesPeek (λ seen. seen) l n limit (Ok found)
-Peeks n limit (refused fault) = (l : PlainLocked)
-    × SeesPeek (λ (seen : List (ℤ × List (Option ℤ))). seen) l n limit (Err fault)
-Peeks n limit answer = ⊥
-
-abbrev pub PeeksNamed : List ℕ → ℤ → Answer → Type 0
-PeeksNamed name limit answer =
-    ((n : ℕ) × ((l : PlainLocked) × FindsQuery l name (Some n)) × Peeks n limit answer)
-    ⊎ (((l : PlainLocked) × FindsQuery l name None) × (answer ≡ refused UnknownQuery))
-
--- what a look at how far all is is answered
-abbrev pub ShowsStatus : Answer → Type 0
-ShowsStatus (status found) = (l : PlainLocked) × (seen : Status) × (found ≡ status_in seen)
-    × SeesStatus l (Ok seen)
-ShowsStatus (refused fault) = (l : PlainLocked) × SeesStatus l (Err fault)
-ShowsStatus answer = ⊥
+-- what a look is answered: one step of the hub looks the query's number up and looks
+abbrev pub Shows : Look → Answer → Type 0
+Shows asked answer =
+    (l : PlainLocked) × (result : Result Seen Fault) × (answer ≡ seen_or result)
+    × SeesLook l asked result
 
 -- ---- forgetting
 
@@ -172,10 +137,7 @@ Serves drains seat (take_rows query limit) answer seat' =
     CarriesNamed query_named query UnknownQuery (λ n. Take n limit) seat answer seat'
 Serves drains seat forget answer seat' = Forgets answer × (seat' ≡ seat)
 Serves drains seat (drop_query query) answer seat' = DropsNamed query seat answer seat'
-Serves drains seat (show_plan query) answer seat' = LooksNamed query answer × (seat' ≡ seat)
-Serves drains seat (peek_rows query limit) answer seat' =
-    PeeksNamed query limit answer × (seat' ≡ seat)
-Serves drains seat show_status answer seat' = ShowsStatus answer × (seat' ≡ seat)
+Serves drains seat (look asked) answer seat' = Shows asked answer × (seat' ≡ seat)
 
 -- the request was answered; the answer to a line that is no request is its fault, and it calls
 -- nothing

@@ -1,15 +1,15 @@
 //! Answers requests that are calls on the hub.
 ghost use Rattle.reference.specs.Commands.{Append, Heartbeat, Take};
+ghost use Rattle.reference.specs.Looks.{look_of};
 ghost use Rattle.reference.specs.Machine.{query_named, stream_named};
 ghost use Rattle.reference.specs.declared.fault.Fault.TheVariants.{UnknownQuery, UnknownStream};
 ghost use Rattle.wire.specs.Printed.{answer_of};
-ghost use Rattle.served.specs.Serving.{CarriesNamed, DropsNamed, LooksNamed, PeeksNamed};
-ghost use Rattle.served.specs.Serving.{ShowsStatus};
+ghost use Rattle.served.specs.Serving.{CarriesNamed, DropsNamed, Shows};
 
 use hub::{Hub, Seat};
-use reference::{Fault, NewRows};
+use reference::{Fault, Look, NewRows};
 use std::sync::Wait;
-use wire::{Reply, done};
+use wire::{Reply, done, seen};
 
 pub(crate) fn append<R: Wait>(
     rt: &R,
@@ -68,35 +68,8 @@ pub(crate) fn drop_query<R: Wait>(rt: &R, hub: &Hub, seat: &mut Seat, query: &st
     }
 }
 
-pub(crate) fn show_plan<R: Wait>(rt: &R, hub: &Hub, query: &str) -> Reply
-    ensures { LooksNamed query.now (answer_of result) }
+pub(crate) fn show<R: Wait>(rt: &R, hub: &Hub, look: &Look) -> Reply
+    ensures { Shows (look_of look.now) (answer_of result) }
 {
-    let Some(number) = hub.query_named(rt, query) else {
-        return Reply::Refused(Fault::UnknownQuery);
-    };
-    match hub.slopes(rt, number) {
-        Ok(operators) => Reply::Operators(operators),
-        Err(fault) => Reply::Refused(fault),
-    }
-}
-
-pub(crate) fn peek<R: Wait>(rt: &R, hub: &Hub, query: &str, limit: i64) -> Reply
-    ensures { PeeksNamed query.now limit (answer_of result) }
-{
-    let Some(number) = hub.query_named(rt, query) else {
-        return Reply::Refused(Fault::UnknownQuery);
-    };
-    match hub.peek(rt, number, limit) {
-        Ok(rows) => Reply::Rows(rows),
-        Err(fault) => Reply::Refused(fault),
-    }
-}
-
-pub(crate) fn show_status<R: Wait>(rt: &R, hub: &Hub) -> Reply
-    ensures { ShowsStatus (answer_of result) }
-{
-    match hub.status(rt) {
-        Ok(status) => Reply::Status(status),
-        Err(fault) => Reply::Refused(fault),
-    }
+    seen(hub.look(rt, look))
 }

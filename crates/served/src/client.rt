@@ -3,9 +3,9 @@ ghost use Rattle.std.specs.Prelude.{◌≡◌, ◌&&◌, Ok};
 ghost use Rattle.wire.specs.Calls.{call_of};
 ghost use Rattle.wire.specs.Printed.{answer_of};
 ghost use Rattle.served.specs.Serving.{Replies, Serves, asks_forget, forgets, is_done};
-ghost use Rattle.served.specs.Serving.{number_in};
+ghost use Rattle.served.specs.Numbers.{number_in};
 
-use crate::answer::{append, close_instants, drop_query, peek, show_plan, show_status, take};
+use crate::answer::{append, close_instants, drop_query, show, take};
 use crate::drains::Drainer;
 use hub::{Hub, Seat};
 use std::sync::Wait;
@@ -76,9 +76,7 @@ impl<R: Wait, D: Drainer> Client<'_, R, D> {
             Request::Take { query, .. } => take(self.rt, self.hub, seat, query.as_str(), number),
             Request::Drop { query } => drop_query(self.rt, self.hub, seat, query.as_str()),
             Request::Forget => done(self.hub.forget(self.rt)),
-            Request::Plan { query } => show_plan(self.rt, self.hub, query.as_str()),
-            Request::Peek { query, .. } => peek(self.rt, self.hub, query.as_str(), number),
-            Request::Status => show_status(self.rt, self.hub),
+            Request::Look(look) => show(self.rt, self.hub, &look),
         }
     }
 }
@@ -95,15 +93,15 @@ pub(crate) fn is_done(reply: &Reply) -> bool
     matches!(reply, Reply::Done)
 }
 
-// Returns the first instant of a stream, the instant of a heartbeat, or the limit of a take or a
-// peek; else 0.
+// Returns the first instant of a stream, the instant of a heartbeat, or the limit of a take.
+// Returns 0 for any other request.
 fn number_in(request: &Request) -> i64
     ensures { result ≡ number_in request.now }
 {
     match request {
         Request::Stream { from, .. } => *from,
         Request::Heartbeat { at, .. } => *at,
-        Request::Take { limit, .. } | Request::Peek { limit, .. } => *limit,
+        Request::Take { limit, .. } => *limit,
         _ => 0,
     }
 }

@@ -6,6 +6,7 @@ use crate::alarm::{Alarm, Failure};
 use crate::client::{Client, is_done};
 use crate::drains::Drainer;
 use hub::Seat;
+use reference::Look;
 use std::sync::Wait;
 use std::sync::atomic::{AtomicBool, Ordering};
 use wire::{Reply, Request, Responder, WireFault};
@@ -82,7 +83,7 @@ impl<R: Wait, D: Drainer> Keeper<'_, '_, R, D> {
     {
         if matches!(
             read,
-            Ok(Request::Forget | Request::Status | Request::Peek { .. })
+            Ok(Request::Forget | Request::Look(Look::Peek { .. } | Look::Status))
         ) {
             self.leaves_work.store(true, Ordering::SeqCst);
             self.settle(seat);

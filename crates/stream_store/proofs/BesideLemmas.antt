@@ -19,7 +19,8 @@ use Rattle.reference.specs.World.{World, Step, Does, Looks, unless, declare_step
 use Rattle.reference.proofs.StreamLemmas.{accepted_each, first_part, none_first, none_later, passed_there, stopped_there}
 use Rattle.reference.proofs.StepLemmas.{refused, done, lacked}
 use Rattle.stream_store.specs.Beside.{beside, DoesBeside, DoesBesideSuch, IsLimit, limited_tests}
-use Rattle.stream_store.specs.Closing.{closed_of, closing_of, closing_at, closing_in, unless_faulty, QueuesGain}
+use Rattle.stream_store.specs.Closing.{closed_of}
+use Rattle.stream_store.specs.Gains.{closing_of, closing_at, closing_in, unless_faulty, QueuesGain}
 
 nothing : {X : Type 0} (o : Option X) → is_some o ≡ false → o ≡ None
 nothing None h = refl

@@ -10,7 +10,8 @@ use Rattle.std.proofs.lemmas.List.{get_or-map}
 use Rattle.std.proofs.lemmas.Map.Keys.{sorted_head}
 use Rattle.column.specs.Bits.{chosen}
 use Rattle.values.specs.Window.{Element}
-use Rattle.op_queue.specs.Logs.{Closed, IsClosing, IsInOrder}
+use Rattle.op_queue.specs.Logs.{Closed}
+use Rattle.op_queue.specs.Closings.{IsClosing, IsInOrder}
 use Rattle.op_queue.proofs.MarkLemmas.{all-kept, order-kept, some_item}
 use Rattle.stream_store.specs.LateRows.{RowsAt}
 use Rattle.stream_store.specs.Open.{Entry}

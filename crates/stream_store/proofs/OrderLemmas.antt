@@ -5,7 +5,7 @@ use Rattle.std.proofs.lemmas.Bool.{cases_order, lt-leb, le-leb, lt-ltb, le-ltb, 
 use Rattle.std.proofs.lemmas.List.Elements.{filter-append}
 use Rattle.std.proofs.lemmas.Grind.{flat_map-append}
 use Rattle.values.specs.Window.{Element}
-use Rattle.op_queue.specs.Logs.{IsInOrder}
+use Rattle.op_queue.specs.Closings.{IsInOrder}
 use Rattle.stream_store.specs.Closing.{by_key}
 use Rattle.stream_store.specs.OpenRows.{Rising}
 use Rattle.stream_store.proofs.KeyLemmas.{filter_none, filter_all, each_from, each-append, each-kept}

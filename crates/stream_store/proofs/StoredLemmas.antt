@@ -6,10 +6,11 @@ use Rattle.std.proofs.lemmas.List.{length-map}
 use Rattle.std.proofs.lemmas.List.Elements.{filter-append}
 use Rattle.values.specs.Row.{Row}
 use Rattle.values.specs.Window.{Element}
-use Rattle.op_queue.specs.Logs.{Closed, IsInOrder, IsClosing}
+use Rattle.op_queue.specs.Logs.{Closed}
+use Rattle.op_queue.specs.Closings.{IsInOrder, IsClosing}
 use Rattle.cql_reader.specs.declared.name.Name.{Name}
-use Rattle.cql_reader.specs.Views.{name_of}
-use Rattle.names.specs.Views.{names_of}
+use Rattle.cql_reader.specs.Names.{name_of}
+use Rattle.names.specs.Names.{names_of}
 use Rattle.reference.specs.Machine.{Stream}
 use Rattle.names.specs.Faults.{first_of}
 use Rattle.reference.specs.Commands.{appended, closed_to, append_tests, is_instant, is_stream_value}
@@ -18,7 +19,8 @@ use Rattle.reference.specs.declared.fault.Fault.TheVariants.{TooMany, BadWidth, 
 use Rattle.reference.proofs.StreamLemmas.{none_first, none_later, or_right}
 use Rattle.reference.specs.Appended.{kept_of}
 use Rattle.stream_store.specs.Open.{after_put, up_to, past}
-use Rattle.stream_store.specs.Closing.{by_instant, by_key, closed_of, closing_of}
+use Rattle.stream_store.specs.Closing.{by_instant, by_key, closed_of}
+use Rattle.stream_store.specs.Gains.{closing_of}
 use Rattle.stream_store.specs.Stored.{stream_in, IsStored}
 use Rattle.stream_store.proofs.KeyLemmas.{filter_none, filter_all, each_from, each-append, each-kept, each_passes}
 use Rattle.stream_store.proofs.OrderLemmas.{filter_same_each, within, Ordered, by_instant_ordered, rising_instants, ordered-append, ordered-filter, each_from_all, all_from_each, ordered_from, in_order}

@@ -7,7 +7,8 @@ use Rattle.stream_store.specs.LateRows.{rows_in}
 use Rattle.stream_store.specs.Open.{Entry, open_of, put_rows, after_put, below, instants_past}
 use Rattle.stream_store.specs.Open.{up_to}
 use Rattle.stream_store.specs.OpenRows.{risen_in, with_late}
-use Rattle.stream_store.specs.Closing.{by_key, closed_of, closing_of}
+use Rattle.stream_store.specs.Closing.{by_key, closed_of}
+use Rattle.stream_store.specs.Gains.{closing_of}
 
 abbrev row : ℕ → Row
 row n = Some (pos n) ∷ []

@@ -4,6 +4,7 @@ pub mod OpenRows
 pub mod Starts
 pub mod Arrivals
 pub mod Closing
+pub mod Gains
 pub mod Kept
 pub mod Stored
 pub mod Beside

@@ -2,7 +2,8 @@
 use Rattle.std.specs.Prelude.{◌≡◌, ℕ, ◌<◌, ◌≤◌, ◌+◌, List, [], ◌∷◌, ◌++◌, length}
 use Rattle.std.specs.List.{AllByRecursion}
 use Rattle.values.specs.Window.{Element}
-use Rattle.op_queue.specs.Logs.{Closed, IsInOrder}
+use Rattle.op_queue.specs.Logs.{Closed}
+use Rattle.op_queue.specs.Closings.{IsInOrder}
 use Rattle.reference.specs.Machine.{Stream}
 use Rattle.stream_store.specs.Closing.{by_key}
 

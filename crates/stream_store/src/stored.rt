@@ -2,8 +2,8 @@
 ghost use Rattle.std.specs.Prelude.{◌≡◌, ◌≤◌, ◌++◌, ◌∷◌, [], suc, nat_abs, None, OnOk, OnErr, IfOk};
 ghost use Rattle.std.specs.Prelude.{◌+◌, Bool, IfSome, length, nat_lt};
 ghost use Rattle.values.specs.Window.{Element};
-ghost use Rattle.cql_reader.specs.Views.{name_of};
-ghost use Rattle.names.specs.Views.{names_of};
+ghost use Rattle.cql_reader.specs.Names.{name_of};
+ghost use Rattle.names.specs.Names.{names_of};
 ghost use Rattle.op_queue.specs.Cursors.{GainsClosed};
 ghost use Rattle.names.specs.Faults.{first_of};
 ghost use Rattle.reference.specs.Commands.{append_tests, heartbeat_tests, appended, closed_to};
@@ -11,7 +11,8 @@ ghost use Rattle.reference.specs.Commands.{catalog_of};
 ghost use Rattle.reference.specs.Told.{IsTold};
 ghost use Rattle.reference.specs.declared.fault.Fault.TheVariants.{StreamFull};
 ghost use Rattle.stream_store.specs.Beside.{limited_tests};
-ghost use Rattle.stream_store.specs.Closing.{by_instant, closed_of, closing_of};
+ghost use Rattle.stream_store.specs.Closing.{by_instant, closed_of};
+ghost use Rattle.stream_store.specs.Gains.{closing_of};
 ghost use Rattle.stream_store.specs.Kept.{HasRest, SaysKept, count_closed, kept_stream};
 
 use crate::arrivals::Arrivals;
@@ -47,8 +48,8 @@ pub struct Stored {
 
 impl Model for Stored {
     ghost use Rattle.std.specs.Prelude.{◌≡◌, length};
-    ghost use Rattle.cql_reader.specs.Views.{name_of};
-    ghost use Rattle.names.specs.Views.{names_of};
+    ghost use Rattle.cql_reader.specs.Names.{name_of};
+    ghost use Rattle.names.specs.Names.{names_of};
     ghost use Rattle.reference.specs.Machine as machine;
 
     ghost Value = { machine.Stream };

@@ -14,7 +14,8 @@ ghost use Rattle.reference.specs.Places.{machine_of};
 ghost use Rattle.reference.specs.Told.{IsTold};
 ghost use Rattle.reference.specs.World.{Looks, declare_step, append_step};
 ghost use Rattle.stream_store.specs.Beside.{DoesBeside, DoesBesideSuch, IsLimit, limited_tests};
-ghost use Rattle.stream_store.specs.Closing.{closed_of, closing_at, closing_in, QueuesGain};
+ghost use Rattle.stream_store.specs.Closing.{closed_of};
+ghost use Rattle.stream_store.specs.Gains.{closing_at, closing_in, QueuesGain};
 ghost use Rattle.stream_store.specs.Kept.{SaysKept, SaysKeptOf, count_closed, kept_stream};
 
 use crate::arrivals::Arrivals;

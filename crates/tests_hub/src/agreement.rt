@@ -5,7 +5,7 @@ use crate::scripts::is_answered_by;
 use hub::{Hub, Seat};
 use leases::{Engine, Leased};
 use plan::Chart;
-use reference::{Answering, Fault, QueryStatus, Status, StreamStatus};
+use reference::{Answering, Fault, Look, QueryStatus, Seen, Status, StreamStatus};
 use served::serve_connection;
 use std::alloc::{AllocError, Global};
 use std::sync::Wait;
@@ -302,20 +302,30 @@ fn an_abandoned_turn_goes_out_again_with_its_item(rt: HostRuntime) -> Result<(),
 }
 
 // Returns whether the looks at a hub are those of an engine with a row and a tick.
-fn are_looks_right<R: Wait>(rt: &R, hub: &Hub) -> Result<bool, Fault> {
+fn are_looks_right<R: Wait>(rt: &R, alloc: Global, hub: &Hub) -> Result<bool, Fault> {
     let pending = hub.pending(rt, 0)?;
     let slopes = hub.slopes(rt, 0)?;
     let are_numbers_right = hub.waiting(rt, 0) == Ok(0)
         && hub.stream_named(rt, "S") == Some(0)
         && hub.query_named(rt, "q") == Some(0)
         && hub.query_named(rt, "p").is_none();
-    Ok(are_numbers_right && pending.as_slice() == [2u128, 0, 0].as_slice() && slopes.len() == 3)
+    let are_lengths_right = pending.as_slice() == [2u128, 0, 0].as_slice() && slopes.len() == 3;
+    Ok(are_numbers_right && are_lengths_right && is_plan_seen(rt, alloc, hub)?)
+}
+
+// Returns whether a look at the plan sees three operators.
+fn is_plan_seen<R: Wait>(rt: &R, alloc: Global, hub: &Hub) -> Result<bool, Fault> {
+    let query = String::from_str(alloc, "q")?;
+    match hub.look(rt, &Look::Plan { query })? {
+        Seen::Operators(operators) => Ok(operators.len() == 3),
+        _ => Ok(false),
+    }
 }
 
 #[test]
 fn looks_are_those_of_an_engine(rt: HostRuntime) -> Result<(), Fail> {
     let (hub, _) = ready(&rt, rt.alloc(), 5)?;
-    assert!(rt; are_looks_right(&rt, &hub)?);
+    assert!(rt; are_looks_right(&rt, rt.alloc(), &hub)?);
     assert_eq!(rt; hub.pending(&rt, 1).err(), Some(Fault::UnknownQuery));
     Ok(())
 }

@@ -5,7 +5,8 @@ use Rattle.std.proofs.lemmas.List.Elements.{All-append, All-filter}
 use Rattle.values.specs.Row.{Row}
 use Rattle.values.specs.Window.{Window}
 use Rattle.lane_kernels.specs.declared.condition.Step.{Step}
-use Rattle.op_queue.specs.Entries.{Entry, IsForward, RowAt, TickAt, instant_of}
+use Rattle.op_queue.specs.Entries.{Entry, RowAt, TickAt}
+use Rattle.op_queue.specs.Forward.{IsForward, instant_of}
 use Rattle.op_queue.specs.Items.{item_instant}
 use Rattle.op_queue.specs.declared.item.Item.{Item}
 use Rattle.op_queue.specs.declared.item.Item.TheVariants.{Rows, Tick}
@@ -13,7 +14,7 @@ use Rattle.row_nodes.specs.Project.{projected, projected_row}
 use Rattle.row_nodes.specs.Select.{is_kept, selected}
 use Rattle.op_queue.specs.Paths.{rows_in}
 use Rattle.windows.specs.Instants as instants
-use Rattle.windows.specs.Reach.{moves}
+use Rattle.values.specs.Moving.{moves}
 use Rattle.windows.specs.Widths.{IsItemWide}
 use Rattle.windows.specs.Windows.{Begins, IsAfter, IsNext, MayTake, WindowState, near, out, width_of}
 use Rattle.windows.specs.declared.window.Holding.TheVariants.{Instants, Latest}

@@ -1,5 +1,5 @@
 //! Windows in place.
-ghost use Rattle.std.specs.Prelude.{◌≡◌, ◌≤◌, IsTrue, IfOk, OnOk, length};
+ghost use Rattle.std.specs.Prelude.{◌≡◌, ◌<◌, ◌≤◌, IsTrue, IfOk, OnOk, length};
 ghost use Rattle.op_queue.specs.Items.{item_instant};
 ghost use Rattle.windows.specs.Widths.{IsItemWide};
 ghost use Rattle.windows.specs.Windows.{IsFormed, IsNext, MayTake};
@@ -9,6 +9,7 @@ use crate::sampled::rows;
 use op_queue::{Item, Queue};
 use std::alloc::{AllocError, Global};
 use std::test::Fail;
+use values::{Reach, Step};
 use windows::{Window, work};
 
 /// Is an instant, and how many rows of it come. If none does, its tick comes.
@@ -75,6 +76,28 @@ fn agrees(
     holds(alloc, queue, &items)
 }
 
+/// Returns the window of all rows.
+fn unbounded() -> values::Window
+    ensures { IsFormed result }
+{
+    values::Window::Instants(Reach::All)
+}
+
+/// Returns the window of this instant and of so many before it.
+fn last(span: u64) -> values::Window
+    ensures { IsFormed result }
+{
+    values::Window::Instants(Reach::Last(span))
+}
+
+/// Returns a window of so many instants that slides by this step, 1 or more.
+fn slide(span: u64, step: u64) -> values::Window
+    requires { 0 < step }
+    ensures { IsFormed result }
+{
+    values::Window::Instants(Reach::Steps(span, Step::new(step)))
+}
+
 /// Returns whether both do so item after item.
 fn agree(alloc: Global, window: &values::Window, all: &[Came]) -> Result<bool, AllocError>
     requires { IsFormed window.now }
@@ -110,19 +133,19 @@ const CAME: [Came; 12] = [
 
 #[test]
 fn range_windows_run_in_place(rt: HostRuntime) -> Result<(), Fail> {
-    assert!(rt; agree(rt.alloc(), &values::Window::Range(0), &CAME)?);
-    assert!(rt; agree(rt.alloc(), &values::Window::Range(2), &CAME)?);
-    assert!(rt; agree(rt.alloc(), &values::Window::Range(6), &CAME)?);
-    assert!(rt; agree(rt.alloc(), &values::Window::Unbounded, &CAME)?);
+    assert!(rt; agree(rt.alloc(), &last(0), &CAME)?);
+    assert!(rt; agree(rt.alloc(), &last(2), &CAME)?);
+    assert!(rt; agree(rt.alloc(), &last(6), &CAME)?);
+    assert!(rt; agree(rt.alloc(), &unbounded(), &CAME)?);
     Ok(())
 }
 
 #[test]
 fn windows_that_move_at_multiples_run_in_place(rt: HostRuntime) -> Result<(), Fail> {
-    assert!(rt; agree(rt.alloc(), &values::Window::RangeSlide(0, 1), &CAME)?);
-    assert!(rt; agree(rt.alloc(), &values::Window::RangeSlide(2, 3), &CAME)?);
-    assert!(rt; agree(rt.alloc(), &values::Window::RangeSlide(6, 3), &CAME)?);
-    assert!(rt; agree(rt.alloc(), &values::Window::RangeSlide(1, 4), &CAME)?);
+    assert!(rt; agree(rt.alloc(), &slide(0, 1), &CAME)?);
+    assert!(rt; agree(rt.alloc(), &slide(2, 3), &CAME)?);
+    assert!(rt; agree(rt.alloc(), &slide(6, 3), &CAME)?);
+    assert!(rt; agree(rt.alloc(), &slide(1, 4), &CAME)?);
     Ok(())
 }
 

@@ -1,12 +1,11 @@
 //! Tests answers of the definition that runs.
-ghost use Rattle.std.specs.Prelude.{◌≡◌, All, length};
-ghost use Rattle.values.specs.Resolved.{CanSlide};
+ghost use Rattle.std.specs.Prelude.{◌≡◌, length};
 ghost use Rattle.values.specs.Resolved.{FitsRows};
 
 use reference::evaluate::evaluate;
 use std::alloc::{AllocError, Global};
 use std::test::Fail;
-use values::{Resolved, Row, Shape, SourceColumn, StreamOperator, Value, Window, copy_row};
+use values::{Reach, Resolved, Row, Shape, SourceColumn, StreamOperator, Value, Window, copy_row};
 
 /// Returns a row of one number.
 pub(crate) fn row(number: i128) -> Row {
@@ -35,7 +34,6 @@ fn are_answers(
 ) -> Result<bool, AllocError>
     requires fits { FitsRows query.now.shape }
     requires sources { length query.now.windows.items ≡ length inputs.now }
-    requires slides { All CanSlide query.now.windows.items }
 {
     let answers = evaluate(alloc, query, 0, until, inputs)?;
     Ok(are(&answers, wanted))
@@ -50,9 +48,7 @@ fn listing_answers(
     until: u64,
     rows: Vec<(u64, Row)>,
     wanted: &[(u64, i64)],
-) -> Result<bool, AllocError>
-    requires { CanSlide window }
-{
+) -> Result<bool, AllocError> {
     let mut windows = Vec::new(alloc);
     windows.push(window)?;
     let mut columns = Vec::new(alloc);
@@ -78,7 +74,7 @@ fn rows_of_now_are_shown(alloc: Global) -> Result<bool, AllocError> {
     listing_answers(
         alloc,
         StreamOperator::Istream,
-        Window::Range(0),
+        Window::Instants(Reach::Last(0)),
         4,
         rows,
         &wanted,

@@ -1,10 +1,8 @@
 //! Tests answers of a text.
-ghost use Rattle.cql_reader.specs.Views.{query_of};
-ghost use Rattle.cql_reader.specs.WellFormed.{IsWellFormed};
 
 use crate::answers::{are, row};
 use cql_reader::{Name, Query, every_query_is_well_formed, every_text_has_one_answer, read};
-use names::{Catalog, resolve};
+use names::{Catalog, ResolveError};
 use plan::{fits_a_row, plans_are_right};
 use reference::{
     answers, answers_only_grow, equal_window_bags_have_equal_answers,
@@ -37,25 +35,19 @@ fn answered(
     query: &Query,
     catalog: &Catalog,
     inputs: &[Vec<(u64, Row)>],
-) -> Result<Option<Vec<(u64, Row)>>, AllocError>
-    requires { IsWellFormed (query_of query.now) }
-{
+) -> Result<Option<Vec<(u64, Row)>>, AllocError> {
     if !fits_a_row(query, catalog) || query.sources.len() != inputs.len() {
         return Ok(None);
     }
-    match resolve(alloc, query, catalog) {
-        Ok(named) if named.streams.len() == 1 => {
-            let answers = answers(alloc, query, catalog, inputs, -1, 3)?;
-            Ok(Some(answers))
-        }
-        _ => Ok(None),
+    match answers(alloc, query, catalog, inputs, -1, 3) {
+        Ok(answers) => Ok(Some(answers)),
+        Err(ResolveError::OutOfMemory) => Err(AllocError),
+        Err(ResolveError::Fault(_)) => Ok(None),
     }
 }
 
 /// Returns whether these are the answers of a query over S.
-fn answers_are(alloc: Global, query: &Query, wanted: &[(u64, i64)]) -> Result<bool, AllocError>
-    requires { IsWellFormed (query_of query.now) }
-{
+fn answers_are(alloc: Global, query: &Query, wanted: &[(u64, i64)]) -> Result<bool, AllocError> {
     let catalog = catalog(alloc)?;
     let inputs = inputs(alloc)?;
     match answered(alloc, query, &catalog, &inputs)? {

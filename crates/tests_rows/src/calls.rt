@@ -1,7 +1,7 @@
 //! Answers requests of clients, over any engine.
 
 use crate::turns::add_row;
-use reference::{AnswerRows, Answering, Fault, NodeKind, Slope, Status};
+use reference::{AnswerRows, Answering, Fault, Look, NodeKind, Seen, Slope, Status};
 use std::alloc::{AllocError, Global};
 use std::ops::Deref;
 use values::Row;
@@ -57,6 +57,15 @@ fn shown_operators(alloc: Global, operators: &[(NodeKind, Slope)]) -> Result<Str
     Ok(text)
 }
 
+/// Shows what a look saw.
+fn shown_seen(alloc: Global, seen: &Seen) -> Result<String, AllocError> {
+    match seen {
+        Seen::Answers(answers) => shown_flat(alloc, answers),
+        Seen::Operators(operators) => shown_operators(alloc, operators),
+        Seen::Status(status) => shown_status(alloc, status),
+    }
+}
+
 /// Returns the number of what has this name. If nothing has it, the name is read as the number.
 fn number_of(named: Option<u64>, name: &str) -> u64 {
     match named {
@@ -86,17 +95,29 @@ fn asked<E: Answering>(
             let answers = engine.take(number, *limit)?;
             Ok(shown_answers(alloc, &answers)?)
         }
-        Request::Plan { .. } => {
-            let operators = engine.slopes(number)?;
-            Ok(shown_operators(alloc, &operators)?)
-        }
-        Request::Peek { limit, .. } => {
-            let answers = engine.peek(number, *limit)?;
-            Ok(shown_flat(alloc, &answers)?)
-        }
         _ => {
             engine.drop_query(number)?;
             done(alloc)
+        }
+    }
+}
+
+/// Shows what a look is answered, by the call for its number.
+fn looked<E: Answering>(alloc: Global, engine: &E, look: &Look) -> Result<String, Fault> {
+    match look {
+        Look::Peek { query, limit } => {
+            let number = number_of(engine.query_named(query.as_str()), query.as_str());
+            let answers = engine.peek(number, *limit)?;
+            Ok(shown_flat(alloc, &answers)?)
+        }
+        Look::Plan { query } => {
+            let number = number_of(engine.query_named(query.as_str()), query.as_str());
+            let operators = engine.slopes(number)?;
+            Ok(shown_operators(alloc, &operators)?)
+        }
+        Look::Status => {
+            let status = engine.status()?;
+            Ok(shown_status(alloc, &status)?)
         }
     }
 }
@@ -133,14 +154,10 @@ fn served<E: Answering>(alloc: Global, engine: &mut E, request: &Request) -> Res
             engine.forget()?;
             done(alloc)
         }
-        Request::Status => {
-            let status = engine.status()?;
-            Ok(shown_status(alloc, &status)?)
+        Request::Take { query, .. } | Request::Drop { query } => {
+            asked(alloc, engine, query.as_str(), request)
         }
-        Request::Take { query, .. }
-        | Request::Peek { query, .. }
-        | Request::Drop { query }
-        | Request::Plan { query } => asked(alloc, engine, query.as_str(), request),
+        Request::Look(look) => looked(alloc, engine, look),
     }
 }
 
@@ -173,8 +190,7 @@ pub(crate) fn asked_of_script<E: Answering>(
         Reply::Done => done(alloc),
         Reply::Rows(rows) => Ok(shown_flat(alloc, &rows)?),
         Reply::Shared(rows) => Ok(shown_flat(alloc, rows.deref())?),
-        Reply::Status(status) => Ok(shown_status(alloc, &status)?),
-        Reply::Operators(operators) => Ok(shown_operators(alloc, &operators)?),
+        Reply::Seen(seen) => Ok(shown_seen(alloc, &seen)?),
         Reply::Refused(fault) => Err(fault),
         Reply::Unread(_) => Ok(String::from_str(alloc, "no request")?),
     }

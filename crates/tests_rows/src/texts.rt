@@ -5,7 +5,7 @@ use cql_reader::{
     WrittenWindow, is_name, read,
 };
 use std::alloc::{AllocError, Global};
-use values::{Aggregate, Compare};
+use values::{Aggregate, Compare, Reach};
 
 pub(crate) fn add_name(text: &mut String, name: &Name) -> Result<(), AllocError> {
     for byte in name.as_bytes() {
@@ -68,15 +68,29 @@ fn add_entries(text: &mut String, entries: &Entries) -> Result<(), AllocError> {
     Ok(())
 }
 
+// Returns by how many instants a window slides, or 0.
+fn slide_of(reach: Reach) -> u64 {
+    match reach {
+        Reach::Steps(_, step) => step.get(),
+        _ => 0,
+    }
+}
+
+fn add_reach(text: &mut String, reach: Reach) -> Result<(), AllocError> {
+    match reach {
+        Reach::All => text.push_str("[Range Unbounded]"),
+        Reach::Last(0) => text.push_str("[Now]"),
+        Reach::Last(instants) => write!(text, "[Range {instants}]"),
+        Reach::Steps(instants, _) => {
+            let slide = slide_of(reach);
+            write!(text, "[Range {instants} Slide {slide}]")
+        }
+    }
+}
+
 fn add_window(text: &mut String, window: &WrittenWindow) -> Result<(), AllocError> {
     match window {
-        WrittenWindow::Now => text.push_str("[Now]"),
-        WrittenWindow::Range(instants) => write!(text, "[Range {instants}]"),
-        WrittenWindow::RangeSlide(instants, step) => write!(
-            text,
-            "[Range {instants} Slide {step}]"
-        ),
-        WrittenWindow::Unbounded => text.push_str("[Range Unbounded]"),
+        WrittenWindow::Instants(reach) => add_reach(text, *reach),
         WrittenWindow::Rows(rows) => write!(text, "[Rows {rows}]"),
         WrittenWindow::Partition(by, rows) => {
             text.push_str("[Partition By ")?;

@@ -1,5 +1,5 @@
 //! Worked rows through the windows.
-ghost use Rattle.std.specs.Prelude.{◌≡◌, IfOk};
+ghost use Rattle.std.specs.Prelude.{◌≡◌, ◌<◌, IfOk};
 ghost use Rattle.column.specs.Rows.{width};
 ghost use Rattle.windows.specs.Windows.{IsFormed};
 
@@ -8,7 +8,23 @@ use column::Batch;
 use op_queue::Item;
 use std::alloc::{AllocError, Global};
 use std::test::Fail;
+use values::{Reach, Step};
 use windows::{Window, work};
+
+/// Returns the window of this instant and of so many before it.
+fn last(span: u64) -> values::Window
+    ensures { IsFormed result }
+{
+    values::Window::Instants(Reach::Last(span))
+}
+
+/// Returns a window of so many instants that slides by this step, 1 or more.
+fn slide(span: u64, step: u64) -> values::Window
+    requires { 0 < step }
+    ensures { IsFormed result }
+{
+    values::Window::Instants(Reach::Steps(span, Step::new(step)))
+}
 
 /// Makes a batch of the rows 7 and 8.
 fn pair(alloc: Global) -> Result<Batch, AllocError>
@@ -47,7 +63,7 @@ fn leave_first(items: &[Item], instant: u64, leaving: &[u64]) -> bool {
 }
 
 fn two_rows_are_dropped(alloc: Global) -> Result<bool, AllocError> {
-    let window = taken(alloc, &values::Window::Range(0))?;
+    let window = taken(alloc, &last(0))?;
     let items = ticked(alloc, &window, 2)?;
     Ok(leave_first(&items, 2, &[3]))
 }
@@ -61,7 +77,7 @@ fn the_tick_drops_the_older_rows(rt: HostRuntime) -> Result<(), Fail> {
 /// Returns how many rows and how many items the tick of an instant emits, at the window of an
 /// instant and the one before it, only at even instants.
 fn slid(alloc: Global, at: u64) -> Result<(usize, usize), AllocError> {
-    let window = taken(alloc, &values::Window::RangeSlide(1, 2))?;
+    let window = taken(alloc, &slide(1, 2))?;
     let items = ticked(alloc, &window, at)?;
     let rows = match items.first() {
         Some(Item::Rows(_, batch)) => batch.len(),
@@ -81,14 +97,14 @@ fn rows_are_shown_at_multiples_alone(rt: HostRuntime) -> Result<(), Fail> {
 
 #[test]
 fn a_window_stays_to_a_multiple_or_while_all_rows_are_shown(rt: HostRuntime) -> Result<(), Fail> {
-    let told = values::Window::RangeSlide(1, 2);
+    let told = slide(1, 2);
     let waiting = taken(rt.alloc(), &told)?;
     assert_eq!(rt; waiting.stays_until(1), 2);
     assert_eq!(rt; waiting.stays_until(2), 2);
     let empty = Window::new(rt.alloc(), &told, 1)?;
     assert_eq!(rt; empty.stays_until(3), u64::MAX);
     assert_eq!(rt; empty.stays_until(4), u64::MAX);
-    let range = taken(rt.alloc(), &values::Window::Range(3))?;
+    let range = taken(rt.alloc(), &last(3))?;
     assert_eq!(rt; range.stays_until(1), 5);
     Ok(())
 }

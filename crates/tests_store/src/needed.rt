@@ -1,11 +1,28 @@
 //! Tests the closed rows that the sources of queries need.
-ghost use Rattle.std.specs.Prelude.{IsTrue};
+ghost use Rattle.std.specs.Prelude.{◌<◌, IsTrue};
 ghost use Rattle.needed_rows.specs.Needed.{AreInOrder};
 
 use needed_rows::{ClosedRows, Reader, needed};
 use std::alloc::{AllocError, Global};
 use std::test::Fail;
-use values::{Value, Window};
+use values::{Reach, Step, Value, Window};
+
+// Returns the window of all rows.
+fn unbounded() -> Window {
+    Window::Instants(Reach::All)
+}
+
+// Returns the window of this instant and of so many before it.
+fn last(span: u64) -> Window {
+    Window::Instants(Reach::Last(span))
+}
+
+// Returns a window of so many instants that slides by this step, 1 or more.
+fn slide(span: u64, step: u64) -> Window
+    requires { 0 < step }
+{
+    Window::Instants(Reach::Steps(span, Step::new(step)))
+}
 
 // A window, and its query's place, first instant and the instant after its mark.
 type Asked = (Window, u64, u64, u64);
@@ -84,12 +101,12 @@ fn ten_rows() -> ClosedRows<'static> {
 fn last_instants_are_kept(alloc: Global) -> Result<[bool; 6], AllocError> {
     let rows = ten_rows();
     Ok([
-        keeps(alloc, &rows, (Window::Range(2), 0, 0, 10), &[7, 8, 9])?,
-        keeps(alloc, &rows, (Window::Range(0), 0, 0, 10), &[9])?,
-        keeps(alloc, &rows, (Window::Range(2), 0, 8, 10), &[8, 9])?,
-        keeps(alloc, &rows, (Window::Range(7), 5, 0, 10), &[5, 6, 7, 8, 9])?,
-        keeps(alloc, &rows, (Window::Unbounded, 0, 6, 10), &[6, 7, 8, 9])?,
-        keeps(alloc, &rows, (Window::Unbounded, 7, 0, 10), &[7, 8, 9])?,
+        keeps(alloc, &rows, (last(2), 0, 0, 10), &[7, 8, 9])?,
+        keeps(alloc, &rows, (last(0), 0, 0, 10), &[9])?,
+        keeps(alloc, &rows, (last(2), 0, 8, 10), &[8, 9])?,
+        keeps(alloc, &rows, (last(7), 5, 0, 10), &[5, 6, 7, 8, 9])?,
+        keeps(alloc, &rows, (unbounded(), 0, 6, 10), &[6, 7, 8, 9])?,
+        keeps(alloc, &rows, (unbounded(), 7, 0, 10), &[7, 8, 9])?,
     ])
 }
 
@@ -99,15 +116,10 @@ fn marks_are_kept(alloc: Global) -> Result<[bool; 4], AllocError> {
     let rows = ten_rows();
     let all = [0, 1, 2, 3, 4, 5, 6, 7, 8, 9];
     Ok([
-        keeps(alloc, &rows, (Window::Range(0), 0, 0, 0), &all)?,
-        keeps(alloc, &rows, (Window::Range(0), 0, 6, 6), &[6, 7, 8, 9])?,
-        keeps(
-            alloc,
-            &rows,
-            (Window::Range(2), 0, 0, 6),
-            &[3, 4, 5, 6, 7, 8, 9],
-        )?,
-        keeps(alloc, &rows, (Window::Range(5), 0, 20, 20), &[])?,
+        keeps(alloc, &rows, (last(0), 0, 0, 0), &all)?,
+        keeps(alloc, &rows, (last(0), 0, 6, 6), &[6, 7, 8, 9])?,
+        keeps(alloc, &rows, (last(2), 0, 0, 6), &[3, 4, 5, 6, 7, 8, 9])?,
+        keeps(alloc, &rows, (last(5), 0, 20, 20), &[])?,
     ])
 }
 
@@ -115,21 +127,16 @@ fn marks_are_kept(alloc: Global) -> Result<[bool; 4], AllocError> {
 fn slides_are_kept(alloc: Global) -> Result<[bool; 5], AllocError> {
     let rows = ten_rows();
     Ok([
-        keeps(alloc, &rows, (Window::RangeSlide(1, 4), 0, 0, 10), &[7, 8])?,
+        keeps(alloc, &rows, (slide(1, 4), 0, 0, 10), &[7, 8])?,
         keeps(
             alloc,
             &rows,
-            (Window::RangeSlide(5, 4), 0, 0, 10),
+            (slide(5, 4), 0, 0, 10),
             &[3, 4, 5, 6, 7, 8, 9],
         )?,
-        keeps(alloc, &rows, (Window::RangeSlide(1, 4), 0, 9, 10), &[])?,
-        keeps(alloc, &rows, (Window::RangeSlide(3, 4), 8, 0, 10), &[8, 9])?,
-        keeps(
-            alloc,
-            &rows,
-            (Window::RangeSlide(1, 4), 0, 0, 7),
-            &[3, 4, 7, 8, 9],
-        )?,
+        keeps(alloc, &rows, (slide(1, 4), 0, 9, 10), &[])?,
+        keeps(alloc, &rows, (slide(3, 4), 8, 0, 10), &[8, 9])?,
+        keeps(alloc, &rows, (slide(1, 4), 0, 0, 7), &[3, 4, 7, 8, 9])?,
     ])
 }
 
@@ -193,12 +200,12 @@ fn windows_of_last_rows_keep_those_of_each_partition(rt: HostRuntime) -> Result<
 // Tries what two sources over one stream keep, and what each keeps.
 fn two_are_kept(alloc: Global) -> Result<[bool; 3], AllocError> {
     let rows = ten_rows();
-    let (slide, range) = (Window::RangeSlide(1, 4), Window::Range(0));
+    let (sliding, range) = (slide(1, 4), last(0));
     let first = Reader {
         place: 0,
         first: 0,
         next: 10,
-        window: &slide,
+        window: &sliding,
     };
     let second = Reader {
         place: 5,

@@ -12,7 +12,7 @@ use to_stream::ToStream;
 use turn::{
     ColumnList, Done, Excerpt, Kind, Parts, SharedExcerpt, SharedItem, Turn, TurnNode, same_item,
 };
-use values::{Row, StreamOperator, Value};
+use values::{Reach, Row, Step, StreamOperator, Value};
 use windows::Window;
 
 fn row(number: i64) -> Row
@@ -153,7 +153,8 @@ fn add_nodes(alloc: Global, text: &mut String) -> Result<(), AllocError> {
 /// Makes the excerpt of a window that the row 7 and another enter at the tick.
 fn showing(alloc: Global, number: i64) -> Result<Excerpt, AllocError> {
     let batch = two(alloc, 7, number)?;
-    let mut window = Window::new(alloc, &values::Window::RangeSlide(1, 2), 1)?;
+    let told = values::Window::Instants(Reach::Steps(1, Step::new(2)));
+    let mut window = Window::new(alloc, &told, 1)?;
     window.apply(&Item::Rows(1, batch))?;
     let rows = window.near(alloc, &Item::Tick(2))?;
     Ok(Excerpt::Window(rows))

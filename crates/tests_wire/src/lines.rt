@@ -2,7 +2,7 @@
 ghost use Rattle.std.specs.Prelude.{◌<◌};
 
 use arrayvec::ArrayVec;
-use reference::{AnswerRows, Fault, Plain, QueryFault};
+use reference::{AnswerRows, Fault, Look, Plain, QueryFault};
 use std::alloc::{AllocError, Global};
 use std::sync::Arc;
 use std::test::Fail;
@@ -29,9 +29,9 @@ fn kinds<S: Source>(alloc: Global, source: &mut S) -> Result<String, AllocError>
             Ok(Request::Take { .. }) => "t",
             Ok(Request::Drop { .. }) => "x",
             Ok(Request::Forget) => "f",
-            Ok(Request::Plan { .. }) => "p",
-            Ok(Request::Peek { .. }) => "k",
-            Ok(Request::Status) => "u",
+            Ok(Request::Look(Look::Plan { .. })) => "p",
+            Ok(Request::Look(Look::Peek { .. })) => "k",
+            Ok(Request::Look(Look::Status)) => "u",
             Err(WireFault::NotJson) => "1",
             Err(WireFault::BadRequest) => "2",
             Err(WireFault::LineTooLong) => "3",

@@ -1,6 +1,6 @@
 //! Tests the two requests that change nothing. Shows what a status and a peek answer in scripts
 //! worked out by hand, and how a status is written.
-use reference::{Name, Plain, QueryStatus, Status, StreamStatus};
+use reference::{Name, Plain, QueryStatus, Seen, Status, StreamStatus};
 use std::alloc::{AllocError, Global};
 use std::test::Fail;
 use wire::{MemorySink, MemorySource, Reply, run_script, write_reply};
@@ -261,7 +261,7 @@ fn line_of_all(alloc: Global) -> Result<String, AllocError> {
 }
 
 fn is_written(alloc: Global) -> Result<bool, AllocError> {
-    let reply = Reply::Status(status_of_all(alloc)?);
+    let reply = Reply::Seen(Seen::Status(status_of_all(alloc)?));
     let wanted = line_of_all(alloc)?;
     let mut sink = MemorySink::new(alloc);
     let written = write_reply(&mut sink, &reply);

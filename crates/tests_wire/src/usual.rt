@@ -1,4 +1,5 @@
 //! Tests lines at the border of those that are read by a scan: each is read as JSON reads it.
+use reference::Look;
 use std::alloc::{AllocError, Global};
 use std::test::Fail;
 use wire::{Request, WireFault, read_request};
@@ -27,13 +28,15 @@ fn are_same(one: &Request, other: &Request) -> bool {
             },
         ) => query.as_str() == name.as_str() && limit == most,
         (
-            Request::Peek { query, limit },
-            Request::Peek {
-                query: name,
-                limit: most,
-            },
+            Request::Look(Look::Peek { query, limit }),
+            Request::Look(
+                Look::Peek {
+                    query: name,
+                    limit: most,
+                },
+            ),
         ) => query.as_str() == name.as_str() && limit == most,
-        (Request::Status, Request::Status)
+        (Request::Look(Look::Status), Request::Look(Look::Status))
         | (Request::Drain, Request::Drain)
         | (Request::Forget, Request::Forget) => true,
         _ => false,
@@ -201,7 +204,7 @@ fn take_is(alloc: Global, line: &str, most: i64) -> bool {
 
 fn peek_is(alloc: Global, line: &str, most: i64) -> bool {
     match read_request(alloc, line.as_bytes()) {
-        Ok(Request::Peek { query, limit }) => query.as_str() == "q" && limit == most,
+        Ok(Request::Look(Look::Peek { query, limit })) => query.as_str() == "q" && limit == most,
         _ => false,
     }
 }

@@ -21,7 +21,6 @@ use Rattle.turn.specs.declared.kinds.Kind.{Kind}
 use Rattle.turn.specs.declared.kinds.Kind.TheVariants.{Window, Select, Project, Join, Group}
 use Rattle.turn.specs.declared.kinds.Kind.TheVariants.{ToStream}
 use Rattle.turn.specs.declared.outcomes.Change.{Change}
-use Rattle.turn.specs.declared.outcomes.Change.TheVariants as change
 use Rattle.turn.specs.declared.outcomes.Outputs.{Outputs}
 use Rattle.turn.specs.declared.outcomes.Outputs.TheVariants.{Items, Answers}
 
@@ -111,17 +110,21 @@ outs_of node i n = outs_at node.kind node.side i n
 
 -- THE CHANGE: what groups show; else the item says all
 
+-- no group shows anything else
+abbrev pub unchanged : Change
+unchanged = record { shown = [] }
+
 abbrev pub group_change : GroupBy → Item → Excerpt → Change
-group_change g i (near.Groups groups) = change.Groups (group.change g i groups)
-group_change g i n = change.Nothing
+group_change g i (near.Groups groups) = record { shown = group.change g i groups }
+group_change g i n = unchanged
 
 abbrev pub change_at : Kind → Item → Excerpt → Change
-change_at Window i n = change.Nothing
-change_at (Select steps) i n = change.Nothing
-change_at (Project columns) i n = change.Nothing
-change_at Join i n = change.Nothing
+change_at Window i n = unchanged
+change_at (Select steps) i n = unchanged
+change_at (Project columns) i n = unchanged
+change_at Join i n = unchanged
 change_at (Group g) i n = group_change g i n
-change_at ToStream i n = change.Nothing
+change_at ToStream i n = unchanged
 
 abbrev pub change_of : PlainNode → Item → Excerpt → Change
 change_of node i n = change_at node.kind i n

@@ -1,7 +1,11 @@
 //! What a turn makes: its outputs and its change.
+ghost use Rattle.std.specs.Prelude.{◌≡◌};
+ghost use Rattle.turn.specs.Turns.{unchanged};
 
+use group::GroupChange;
 use op_queue::Item;
 use row_bags::DatedRows;
+use std::alloc::Global;
 
 /// Holds what a turn emits.
 #[derive(Drop)]
@@ -14,9 +18,18 @@ pub enum Outputs {
 
 /// Says what a turn changes of its operator's state, apart from what the item itself says.
 #[derive(Drop)]
-pub enum Change {
-    /// Changes nothing more.
-    Nothing,
-    /// Holds what the touched groups show.
-    Groups(group::GroupChange),
+pub struct Change {
+    /// Holds what the touched groups show. Only a tick of Group or Distinct has any.
+    pub shown: GroupChange,
+}
+
+impl Change {
+    /// Returns the change of a turn that changes nothing more. Takes no memory.
+    pub(crate) fn none(alloc: Global) -> Change
+        ensures { result ≡ unchanged }
+    {
+        Change {
+            shown: GroupChange::none(alloc),
+        }
+    }
 }

@@ -3,7 +3,7 @@
 use crate::fixture::{LAST, NOW, columns, declare, fill, rows};
 use crate::stop::Stop;
 use leases::{Engine, Leased};
-use reference::{Answering, Chart, Fault, NewRows};
+use reference::{Answering, Chart, Fault, Look, NewRows, Seen};
 use std::alloc::{AllocError, Global};
 use std::thread::Threads;
 
@@ -26,6 +26,7 @@ pub(crate) fn show_calls<R: Print + Threads + Sync>(rt: &R, alloc: Global) -> Re
     a_peek_takes_nothing(rt, alloc)?;
     answers_are_taken_once_they_are_kept(rt, alloc)?;
     a_status_says_how_far_all_is(rt, alloc)?;
+    a_look_names_its_query(rt, alloc)?;
     a_dropped_query_is_gone(rt, alloc)?;
     a_name_leads_to_a_number(rt, alloc)
 }
@@ -173,12 +174,14 @@ fn a_drain_answers_the_same_by_any_turns<R: Print>(rt: &R, alloc: Global) -> Res
 /// Shows a drain of a few turns at a time.
 ///
 /// A drain of no turns only looks: two rows wait at the Window. One turn leaves work to do. A
-/// thousand turns are enough for the rest, and then all answers wait.
+/// thousand turns are enough for the rest, and then all answers wait. A look says the same each
+/// time.
 fn a_drain_stops_after_some_turns<R: Print>(rt: &R, alloc: Global) -> Result<(), Stop> {
     let mut engine = filled(alloc)?;
     for turns in [0, 1, 1_000] {
         let more = engine.drain_some(256, turns)?;
-        println!(rt; "a_drain_stops_after_some_turns: after {turns}, more {more}")?;
+        let ready = engine.has_ready();
+        println!(rt; "a_drain_stops_after_some_turns: after {turns}, more {more}, ready {ready}")?;
     }
     let answers = engine.take(0, 100)?;
     println!(rt; "a_drain_stops_after_some_turns: {answers:?}")?;
@@ -333,6 +336,29 @@ fn a_status_says_how_far_all_is<R: Print>(rt: &R, alloc: Global) -> Result<(), S
     show_status(rt, &engine)
 }
 
+/// Shows looks, which name their query: a peek at one answer, and a name that no query has.
+fn a_look_names_its_query<R: Print>(rt: &R, alloc: Global) -> Result<(), Stop> {
+    let mut engine = filled(alloc)?;
+    engine.drain(256)?;
+    for name in ["q", "r"] {
+        let query = String::from_str(alloc, name)?;
+        match engine.look(&Look::Peek { query, limit: 1 }) {
+            Ok(seen) => show_answers(rt, alloc, name, &seen)?,
+            Err(fault) => println!(rt; "a_look_names_its_query: {name} {fault}")?,
+        }
+    }
+    Ok(())
+}
+
+/// Prints the answers that a look at a query saw.
+fn show_answers<R: Print>(rt: &R, alloc: Global, name: &str, seen: &Seen) -> Result<(), Stop> {
+    if let Seen::Answers(answers) = seen {
+        let rows = answers.to_rows(alloc)?;
+        println!(rt; "a_look_names_its_query: {name} {rows:?}")?;
+    }
+    Ok(())
+}
+
 /// Prints how far each query and each stream is.
 fn show_status<R: Print>(rt: &R, engine: &Engine) -> Result<(), Stop> {
     let status = engine.status()?;
@@ -364,13 +390,16 @@ fn a_dropped_query_is_gone<R: Print>(rt: &R, alloc: Global) -> Result<(), Stop> 
 
 /// Shows how to find a number by a name.
 ///
-/// S is the stream 0, and `q` is the query 0. There is no stream T.
+/// S is the stream 0, and `q` is the query 0. There is no stream T. The next stream and the next
+/// query get the number 1.
 fn a_name_leads_to_a_number<R: Print>(rt: &R, alloc: Global) -> Result<(), Stop> {
     let engine = engine_with(alloc, NOW)?;
     let s = engine.stream_named("S");
     let t = engine.stream_named("T");
     let q = engine.query_named("q");
     println!(rt; "a_name_leads_to_a_number: S {s:?}, T {t:?}, q {q:?}")?;
+    let (stream, query) = (engine.next_stream(), engine.next_query());
+    println!(rt; "a_name_leads_to_a_number: next stream {stream}, next query {query}")?;
     Ok(())
 }
 

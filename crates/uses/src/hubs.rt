@@ -7,7 +7,7 @@ use crate::fixture::{NOW, columns, rows};
 use crate::stop::Stop;
 use hub::{Hub, LeaseRest, LeaseWait, Receipt, Seat};
 use leases::Leased;
-use reference::Fault;
+use reference::{Fault, Look, Seen};
 use std::alloc::{AllocError, Global};
 use std::sync::Wait;
 use std::thread::Threads;
@@ -26,7 +26,8 @@ pub(crate) fn show_calls<R: Print + Threads + Wait + Sync>(
     a_burst_wakes_a_worker_once(rt, alloc)?;
     a_query_of_a_hub_is_dropped(rt, alloc)?;
     anyone_looks_without_a_seat(rt, alloc)?;
-    a_hub_says_how_far_it_is(rt, alloc)
+    a_hub_says_how_far_it_is(rt, alloc)?;
+    a_hub_answers_a_look(rt, alloc)
 }
 
 /// Shows what workers of a hub call.
@@ -229,6 +230,18 @@ fn a_hub_says_how_far_it_is<R: Print + Wait>(rt: &R, alloc: Global) -> Result<()
     for query in &status.queries {
         let (waiting, upto) = (query.waiting, query.upto);
         println!(rt; "a_hub_says_how_far_it_is: {waiting} wait, complete up to {upto}, {seen:?}")?;
+    }
+    Ok(())
+}
+
+/// Shows a look: its query is looked up by name in the same step.
+///
+/// The query `q` has a Window, a Project and a ToStream.
+fn a_hub_answers_a_look<R: Print + Wait>(rt: &R, alloc: Global) -> Result<(), Stop> {
+    let (hub, _, _) = filled(rt, alloc)?;
+    let query = String::from_str(alloc, "q")?;
+    if let Seen::Operators(operators) = hub.look(rt, &Look::Plan { query })? {
+        println!(rt; "a_hub_answers_a_look: {} operators", operators.len())?;
     }
     Ok(())
 }

@@ -4,7 +4,7 @@ use Rattle.std.specs.List.{AllByRecursion}
 use Rattle.std.proofs.lemmas.Bool.Decides.{nat_tests}
 use Rattle.values.specs.Row.{Row}
 use Rattle.values.specs.Perm.{Perm, same, keep, flip, join}
-use Rattle.values.specs.Window.{Element, Window, Range, RangeSlide, Unbounded, LastRows, is_later, numbered, shows, window_rows}
+use Rattle.values.specs.Window.{Element, Window, Instants, LastRows, is_later, numbered, shows, window_rows}
 use Rattle.values.specs.Answers.{Resolved, shown_at, answers}
 use Rattle.values.specs.Tables.{SameTables}
 use Rattle.values.specs.Arrivals.{SameAtInstants, CameAlike, AllCameAlike}
@@ -194,9 +194,7 @@ window_exchanged start w t xs ys (then_flip front x y rest us h e) =
 
 -- the window goes by instants, not by a number of rows
 abbrev GoesByInstants : Window → Type 0
-GoesByInstants (Range n) = Unit {0}
-GoesByInstants (RangeSlide n l) = Unit {0}
-GoesByInstants Unbounded = Unit {0}
+GoesByInstants (Instants r) = Unit {0}
 GoesByInstants (LastRows columns n) = ⊥
 
 -- the element without its number, which such a window does not ask for
@@ -204,9 +202,7 @@ abbrev plainly : ℕ × Row → Element
 plainly x = record { arrival = 0; instant = x.0; row = x.1 }
 
 shows_plainly : (start : ℕ) (w : Window) (t : ℕ) → GoesByInstants w → (es : List Element) (n : ℕ) (x : ℕ × Row) → shows start w t es (record { arrival = n; instant = x.0; row = x.1 }) ≡ shows start w t [] (plainly x)
-shows_plainly start (Range k) t g es n x = refl
-shows_plainly start (RangeSlide k l) t g es n x = refl
-shows_plainly start Unbounded t g es n x = refl
+shows_plainly start (Instants r) t g es n x = refl
 shows_plainly start (LastRows columns k) t g es n x = absurd g
 
 rows_plainly : (start : ℕ) (w : Window) (t : ℕ) → GoesByInstants w → (es : List Element) (n : ℕ) (xs : List (ℕ × Row))
@@ -225,9 +221,7 @@ window_reordered start w t g xs ys p =
 -- EACH WINDOW AT ITS INPUT
 
 window_alike : (start : ℕ) (w : Window) (t : ℕ) (xs ys : List (ℕ × Row)) → CameAlike w xs ys → Perm (window_rows start w t (numbered 0 xs)) (window_rows start w t (numbered 0 ys))
-window_alike start (Range n) t xs ys h = window_reordered start (Range n) t tt xs ys h
-window_alike start (RangeSlide n l) t xs ys h = window_reordered start (RangeSlide n l) t tt xs ys h
-window_alike start Unbounded t xs ys h = window_reordered start Unbounded t tt xs ys h
+window_alike start (Instants r) t xs ys h = window_reordered start (Instants r) t tt xs ys h
 window_alike start (LastRows columns n) t xs ys h = window_exchanged start (LastRows columns n) t xs ys (exchanged xs ys h)
 
 tables_alike : (start : ℕ) (ws : List Window) (t : ℕ) (xss yss : List (List (ℕ × Row))) → AllCameAlike ws xss yss → SameTables (shown_at start ws t (map (numbered 0) xss)) (shown_at start ws t (map (numbered 0) yss))

@@ -3,7 +3,8 @@ use Rattle.std.proofs.Common.{◌≡◌, ℕ, suc, ◌+◌, ◌<◌, ◌≤◌, 
 use Rattle.values.specs.Row.{Row}
 use Rattle.values.specs.Perm.{same}
 use Rattle.values.specs.Tables.{SameTables}
-pub use Rattle.values.specs.Arrivals.{AllFrom, Longer}
+pub use Rattle.values.specs.Arrivals.{Longer}
+pub use Rattle.values.specs.Window.{AllFrom}
 use Rattle.values.specs.Window.{Element, Window, numbered, window_rows}
 use Rattle.values.specs.Answers.{Resolved, shown_at, answers}
 use Rattle.values.proofs.Windows.{AllAfter, window_rows-later}

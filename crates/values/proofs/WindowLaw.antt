@@ -1,12 +1,12 @@
 -- What a window shows of an input it shows of each part that has what it needs.
-use Rattle.std.proofs.Common.{◌≡◌, ℕ, zero, suc, ◌+◌, ◌-◌, ◌*◌, ◌/◌, ◌≤◌, Bool, true, false, cond, ◌&&◌, ◌||◌, nat_le, nat_lt, List, [], ◌∷◌, ◌++◌, map, filter, refl, ap, ap₂, sym, ◌∙◌, arith, true≢false, ltb-true, ltb-false, lt-ltb, le-leb, leb-true, leb-false, subst, ◌⊎◌, inl, inr}
+use Rattle.std.proofs.Common.{◌≡◌, ℕ, suc, ◌+◌, ◌-◌, ◌≤◌, Bool, true, false, cond, ◌&&◌, ◌||◌, nat_le, nat_lt, List, [], ◌∷◌, ◌++◌, map, filter, refl, ap, ap₂, sym, ◌∙◌, arith, true≢false, ltb-true, ltb-false, lt-ltb, le-leb, leb-true, leb-false}
 use Rattle.std.proofs.lemmas.List.Elements.{filter-append}
-use Rattle.std.proofs.lemmas.Nat.{le-div}
-use Rattle.std.proofs.Math.Nat.{div-zero, div-mul-le_self, mul-le-mul_right}
-use Rattle.values.specs.Window.{Element, Window, Range, RangeSlide, Unbounded, LastRows, counts, count_later, shows}
+use Rattle.values.specs.Window.{Element, Window, Instants, LastRows, counts, count_later, shows}
 use Rattle.values.proofs.Windows.{tally, tally_is, tally-append}
-use Rattle.values.specs.Needs.{Each, is_needed, HasNeeded, WindowsShowTheSame}
+use Rattle.values.specs.Needs.{is_needed}
+use Rattle.values.specs.Enough.{Each, HasNeeded, WindowsShowTheSame}
 use Rattle.values.proofs.CountLemmas.{and_true, and_both, tally_le, few_later, n_are_shown}
+use Rattle.values.proofs.ReachLemmas.{reached_needed}
 
 -- every item
 Each_map : {A : Type 0} (P Q : A → Type 0) → ((x : A) → P x → Q x) → (xs : List A) → Each P xs → Each Q xs
@@ -47,14 +47,6 @@ tally_kept q p (x ∷ xs) h = here (p x) refl (q x) refl (tally_kept q p xs h.1)
     here true i false e k = rw e k
     here false i true e k = absurd (true≢false (sym (h.0 e) ∙ i))
     here false i false e k = k
-
-or_right : (a b : Bool) → b ≡ true → (a || b) ≡ true
-or_right true b h = refl
-or_right false b h = h
-
-or_left : (a b : Bool) → a ≡ true → (a || b) ≡ true
-or_left true b h = refl
-or_left false b h = cc
 
 same_bool : (a b : Bool) → (a ≡ true → b ≡ true) → (b ≡ true → a ≡ true) → a ≡ b
 same_bool true true f g = refl
@@ -125,65 +117,15 @@ last_needed from columns n next t es later e h k = here (nat_le next e.instant) 
     here true j = refl
     here false j = and_both (nat_le e.instant (next - 1)) _ (le-leb e.instant (next - 1) (omega (arith, leb-false next e.instant j))) (last_before columns n (next - 1) t es later e (omega (arith, h)) k)
 
-range_needed : (from n next t : ℕ) (es : List Element) (e : Element) → next ≤ t + 1 → (nat_le (t - n) e.instant && nat_le e.instant t) ≡ true → is_needed from (Range n) next es e ≡ true
-range_needed from n next t es e h k = here (nat_le next e.instant) refl
-  where
-    here : (b : Bool) → nat_le next e.instant ≡ b → (b || (nat_le (next - 1 - n) e.instant && nat_le e.instant (next - 1))) ≡ true
-    here true j = refl
-    here false j = let a = and_true (nat_le (t - n) e.instant) _ k in
-        and_both (nat_le (next - 1 - n) e.instant) _ (le-leb (next - 1 - n) e.instant (omega (arith, leb-true (t - n) e.instant a.0, h))) (le-leb e.instant (next - 1) (omega (arith, leb-false next e.instant j)))
-
-unbounded_needed : (from next t : ℕ) (es : List Element) (e : Element) → is_needed from Unbounded next es e ≡ true
-unbounded_needed from next t es e = here (nat_le next e.instant) refl
-  where
-    here : (b : Bool) → nat_le next e.instant ≡ b → (b || nat_le e.instant (next - 1)) ≡ true
-    here true j = refl
-    here false j = le-leb e.instant (next - 1) (omega (arith, leb-false next e.instant j))
-
--- a multiple at u or later is that of t, or the next one, or later
-multiples : (t u l : ℕ) → t ≤ u → (u / l ≡ t / l) ⊎ (t / l + 1 ≤ u / l)
-multiples t u zero h = inl (div-zero u ∙ sym (div-zero t))
-multiples t u (suc l) h = order (t / suc l) (u / suc l) (le-div (t / suc l) u (suc l) (omega arith) (omega (arith, h, div-mul-le_self t (suc l))))
-  where
-    order : (a b : ℕ) → a ≤ b → (b ≡ a) ⊎ (a + 1 ≤ b)
-    order a b i = grind (arith, i)
-
-slide_needed : (from n l next t : ℕ) (es : List Element) (e : Element) → next ≤ t + 1 → ((nat_le from (t / l * l) && nat_le (t / l * l - n) e.instant) && nat_le e.instant (t / l * l)) ≡ true → is_needed from (RangeSlide n l) next es e ≡ true
-slide_needed from n l next t es e h k = here (nat_le next e.instant) refl
-  where
-    parts : (nat_le from (t / l * l) ≡ true) × ((nat_le (t / l * l - n) e.instant ≡ true) × (nat_le e.instant (t / l * l) ≡ true))
-    parts = let a = and_true (nat_le from (t / l * l) && nat_le (t / l * l - n) e.instant) (nat_le e.instant (t / l * l)) k in let b = and_true (nat_le from (t / l * l)) (nat_le (t / l * l - n) e.instant) a.0 in (b.0, (b.1, a.1))
-
-    m : ℕ
-    m = next - 1
-
-    same : t / l ≡ m / l → ((nat_le from (m / l * l) && nat_le (m / l * l - n) e.instant) && nat_le e.instant (m / l * l)) ≡ true
-    same i = subst (λ z. ((nat_le from (z * l) && nat_le (z * l - n) e.instant) && nat_le e.instant (z * l)) ≡ true) i k
-
-    further : m / l + 1 ≤ t / l → nat_le ((m / l + 1) * l - n) e.instant ≡ true
-    further i = le-leb _ e.instant (omega (arith, mul-le-mul_right l i, leb-true (t / l * l - n) e.instant parts.1.0))
-
-    at_mark : (t / l ≡ m / l) ⊎ (m / l + 1 ≤ t / l) → (((nat_le from (m / l * l) && nat_le (m / l * l - n) e.instant) && nat_le e.instant (m / l * l)) || nat_le ((m / l + 1) * l - n) e.instant) ≡ true
-    at_mark (inl i) = or_left _ _ (same i)
-    at_mark (inr i) = or_right _ _ (further i)
-
-    here : (b : Bool) → nat_le next e.instant ≡ b → (b || (((nat_le from (m / l * l) && nat_le (m / l * l - n) e.instant) && nat_le e.instant (m / l * l)) || nat_le ((m / l + 1) * l - n) e.instant)) ≡ true
-    here true j = refl
-    here false j = at_mark (multiples m t l (omega (arith, h)))
-
 -- from the mark on what a window shows of the whole input, with what came later, it needs
 shown_needed : (from : ℕ) (w : Window) (next t : ℕ) (es later : List Element) (e : Element) → next ≤ t + 1 → shows from w t (es ++ later) e ≡ true → is_needed from w next es e ≡ true
-shown_needed from (Range n) next t es later e h k = range_needed from n next t es e h k
-shown_needed from (RangeSlide n l) next t es later e h k = slide_needed from n l next t es e h k
-shown_needed from Unbounded next t es later e h k = unbounded_needed from next t es e
+shown_needed from (Instants r) next t es later e h k = reached_needed r from next t e.instant h k
 shown_needed from (LastRows columns n) next t es later e h k =
     last_needed from columns n next t es later e h (ap (λ c. nat_lt c n) (tally_is (counts columns t e) (es ++ later)) ∙ (and_true (nat_le e.instant t) _ k).1)
 
 -- THE LAW
 shows_same : (from : ℕ) (w : Window) (next t : ℕ) (es later : List Element) (kept : Element → Bool) → HasNeeded from w next es kept → next ≤ t + 1 → (e : Element) → shows from w t (es ++ later) e ≡ shows from w t (filter kept es ++ later) e
-shows_same from (Range n) next t es later kept h k e = refl
-shows_same from (RangeSlide n l) next t es later kept h k e = refl
-shows_same from Unbounded next t es later kept h k e = refl
+shows_same from (Instants r) next t es later kept h k e = refl
 shows_same from (LastRows columns n) next t es later kept h k e =
     last_rows from columns n t es later kept (Each_map (λ f. is_needed from (LastRows columns n) next es f ≡ true → kept f ≡ true) (λ f. f.instant ≤ t → nat_lt (tally (counts columns t f) (es ++ later)) n ≡ true → kept f ≡ true)
     (λ f i l j. i (last_needed from columns n next t es later f k j)) es h) e

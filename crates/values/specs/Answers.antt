@@ -1,3 +1,4 @@
+-- TO BELIEVE: the theorem rests on these definitions, and no proof can check them.
 -- A query with its names resolved, its relation at an instant, and its answers.
 use Rattle.std.specs.Prelude.{ℕ, zero, suc, ◌-◌, Bool, cond, nat_le, Option, List, [], ◌∷◌, map}
 use Rattle.std.specs.Prelude.{filter}

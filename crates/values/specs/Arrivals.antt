@@ -1,13 +1,8 @@
 -- Inputs that differ by later elements, or in the order of arrival alone.
-use Rattle.std.specs.Prelude.{◌≡◌, ℕ, ◌==◌, ◌≤◌, List, [], ◌∷◌, ◌++◌, filter}
+use Rattle.std.specs.Prelude.{◌≡◌, ℕ, ◌==◌, List, [], ◌∷◌, ◌++◌, filter}
 use Rattle.values.specs.Row.{Row}
 use Rattle.values.specs.Perm.{Perm}
-use Rattle.values.specs.Window.{Element, Window, Range, RangeSlide, Unbounded, LastRows}
-
--- elements of instants from `until` on
-abbrev pub AllFrom : ℕ → List Element → Type 0
-AllFrom until [] = Unit {0}
-AllFrom until (e ∷ es) = (until ≤ e.instant) × AllFrom until es
+use Rattle.values.specs.Window.{Element, Window, Instants, LastRows, AllFrom}
 
 -- the second inputs are the first with elements of instants from `until` on behind them
 abbrev pub Longer : ℕ → List (List Element) → List (List Element) → Type 0
@@ -24,9 +19,7 @@ SameAtInstants xs ys = (t : ℕ) → filter (λ e. e.0 == t) xs ≡ filter (λ e
 -- the same elements came to a window: where it is one of last
 -- rows, those of each instant in the same order; else in any order
 abbrev pub CameAlike : Window → List (ℕ × Row) → List (ℕ × Row) → Type 0
-CameAlike (Range n) xs ys = Perm xs ys
-CameAlike (RangeSlide n l) xs ys = Perm xs ys
-CameAlike Unbounded xs ys = Perm xs ys
+CameAlike (Instants r) xs ys = Perm xs ys
 CameAlike (LastRows columns n) xs ys = SameAtInstants xs ys
 
 -- so at each window, of which each has an input in both lists, or in neither

@@ -3,9 +3,11 @@ use Rattle.std.specs.Prelude.{◌≡◌, ℕ, true, false, Option, Some, None, �
 use Rattle.std.specs.Prelude.{[], ◌∷◌, codes, refl}
 use Rattle.std.specs.Fmt.{digits}
 use Rattle.std.specs.declared.cmp.Ordering.TheVariants.{Less, Equal, Greater}
-use Rattle.values.specs.Value.{stream_max, answer_max, clamp_answer, value_text}
+use Rattle.values.specs.Value.{stream_max, answer_max, clamp_answer}
+use Rattle.values.specs.Text.{value_text}
 use Rattle.values.specs.Row.{Row, row_cmp}
-use Rattle.values.specs.Window.{input_of, Window, numbered, Range, RangeSlide, LastRows}
+use Rattle.values.specs.declared.reach.Reach.TheVariants.{Last, Steps}
+use Rattle.values.specs.Window.{input_of, Window, numbered, Instants, LastRows}
 use Rattle.values.specs.Condition.{SourceColumn, Field, Number, Compared, Not, And}
 use Rattle.values.specs.declared.resolved.Compare.TheVariants.{Equals, Above}
 use Rattle.values.specs.declared.resolved.Aggregate.TheVariants.{Sum}
@@ -70,13 +72,13 @@ simple op w = record {
 }
 
 -- Select Istream(*) From S [Now]: rows of one instant, sorted
-now_sorted : answers (simple Istream (Range 0)) 0 4
+now_sorted : answers (simple Istream (Instants (Last 0))) 0 4
     (numbered 0 ((3, one 7) ∷ (1, one 5) ∷ (3, one 6) ∷ []) ∷ [])
     ≡ (1, one 5) ∷ (3, one 6) ∷ (3, one 7) ∷ []
 now_sorted = refl
 
 -- a row that stood in the relation before is not shown again
-stood_before : answers (simple Istream (Range 0)) 0 3
+stood_before : answers (simple Istream (Instants (Last 0))) 0 3
     (numbered 0 ((1, one 7) ∷ (2, one 7) ∷ []) ∷ []) ≡ (1, one 7) ∷ []
 stood_before = refl
 
@@ -84,17 +86,17 @@ last_of_one_instant : answers (simple Istream (LastRows [] 1)) 0 2
     (numbered 0 ((1, one 5) ∷ (1, one 6) ∷ []) ∷ []) ≡ (1, one 6) ∷ []
 last_of_one_instant = refl
 
-shown_as_it_leaves : answers (simple Dstream (Range 2)) 0 6 (numbered 0 ((1, one 7) ∷ []) ∷ [])
-    ≡ (4, one 7) ∷ []
+shown_as_it_leaves : answers (simple Dstream (Instants (Last 2))) 0 6
+    (numbered 0 ((1, one 7) ∷ []) ∷ []) ≡ (4, one 7) ∷ []
 shown_as_it_leaves = refl
 
-two_instants : answers (simple Rstream (Range 1)) 0 4 (numbered 0 ((0, one 7) ∷ []) ∷ [])
-    ≡ (0, one 7) ∷ (1, one 7) ∷ []
+two_instants : answers (simple Rstream (Instants (Last 1))) 0 4
+    (numbered 0 ((0, one 7) ∷ []) ∷ []) ≡ (0, one 7) ∷ (1, one 7) ∷ []
 two_instants = refl
 
 not_of_unknown : answers
     (record {
-      windows = Range 0 ∷ [];
+      windows = Instants (Last 0) ∷ [];
       condition = Some (Not (Compared (Field (at 0 0)) Above (Number (pos 3))));
       shape = Listed (at 0 0 ∷ []);
       is_distinct = false;
@@ -105,7 +107,7 @@ not_of_unknown = refl
 
 nulls_join_nothing : answers
     (record {
-      windows = Range 0 ∷ Range 0 ∷ [];
+      windows = Instants (Last 0) ∷ Instants (Last 0) ∷ [];
       condition = Some (Compared (Field (at 0 0)) Equals (Field (at 1 0)));
       shape = Listed (at 0 0 ∷ at 1 1 ∷ []);
       is_distinct = false;
@@ -120,7 +122,7 @@ nulls_join_nothing = refl
 -- aggregates without Group By, over no rows: one row, shown once by Istream
 count_of_none : answers
     (record {
-      windows = Range 0 ∷ [];
+      windows = Instants (Last 0) ∷ [];
       condition = None;
       shape = Grouped [] (CountAll ∷ Of Sum (at 0 0) ∷ []);
       is_distinct = false;
@@ -131,7 +133,7 @@ count_of_none = refl
 
 groups_with_nulls : answers
     (record {
-      windows = Range 0 ∷ [];
+      windows = Instants (Last 0) ∷ [];
       condition = None;
       shape = Grouped (at 0 0 ∷ []) (Key 0 ∷ CountAll ∷ Of Sum (at 0 1) ∷ []);
       is_distinct = false;
@@ -143,7 +145,7 @@ groups_with_nulls = refl
 
 distinct_nulls : answers
     (record {
-      windows = Range 0 ∷ [];
+      windows = Instants (Last 0) ∷ [];
       condition = None;
       shape = Listed (at 0 0 ∷ []);
       is_distinct = true;
@@ -166,12 +168,12 @@ last_of_each : answers
 last_of_each = refl
 
 -- windows that slide: the base decides where the first begins
-slide_a : answers (simple Rstream (RangeSlide 1 2)) 0 4
+slide_a : answers (simple Rstream (Instants (Steps 1 2))) 0 4
     (numbered 0 ((0, one 7) ∷ (1, one 8) ∷ (2, one 9) ∷ (3, one 10) ∷ []) ∷ [])
     ≡ (0, one 7) ∷ (1, one 7) ∷ (2, one 8) ∷ (2, one 9) ∷ (3, one 8) ∷ (3, one 9) ∷ []
 slide_a = refl
 
-slide_b : answers (simple Rstream (RangeSlide 1 2)) 1 4
+slide_b : answers (simple Rstream (Instants (Steps 1 2))) 1 4
     (numbered 0 ((1, one 8) ∷ (2, one 9) ∷ []) ∷ [])
     ≡ (2, one 8) ∷ (2, one 9) ∷ (3, one 8) ∷ (3, one 9) ∷ []
 slide_b = refl
@@ -179,7 +181,7 @@ slide_b = refl
 -- three sources
 three : answers
     (record {
-      windows = Range 0 ∷ Range 0 ∷ Range 0 ∷ [];
+      windows = Instants (Last 0) ∷ Instants (Last 0) ∷ Instants (Last 0) ∷ [];
       condition = Some (And (Compared (Field (at 0 0)) Equals (Field (at 1 0)))
           (Compared (Field (at 1 1)) Equals (Field (at 2 0))));
       shape = Listed (at 0 0 ∷ at 2 0 ∷ []);
@@ -193,6 +195,6 @@ three : answers
 three = refl
 
 -- what came before the registration does not enter
-after_registration : answers (simple Istream (Range 0)) 0 6
+after_registration : answers (simple Istream (Instants (Last 0))) 0 6
     (input_of 1 0 (numbered 0 ((5, one 1) ∷ (5, one 2) ∷ [])) ∷ []) ≡ (5, one 2) ∷ []
 after_registration = refl

@@ -15,11 +15,15 @@ ghost use Rattle.std.specs.Cmp.Rules.{comparing};
 ghost use Rattle.std.specs.Option.{option_cmp, option_eq};
 ghost use Rattle.std.specs.Ordering.{int_cmp, int_eq, as_partial_cmp};
 ghost use Rattle.values.specs.Row.{row_cmp, same_row, value_at};
-ghost use Rattle.values.specs.Value.{IsStreamNumber, IsAnswerNumber, clamp_answer};
+ghost use Rattle.values.specs.Value.{clamp_answer};
+ghost use Rattle.values.specs.Ranges.{IsStreamNumber, IsAnswerNumber};
 
+mod reach;
 mod resolved;
+mod step;
 
 use arrayvec::ArrayVec;
+pub use reach::{NeededInstants, Reach};
 pub use resolved::{
     Aggregate, Compare, Condition, ListItem, Operand, Resolved, Shape, SourceColumn,
     StreamOperator, Window,
@@ -27,6 +31,7 @@ pub use resolved::{
 use std::cmp::Ordering;
 use std::fmt;
 use std::marker::Model;
+pub use step::Step;
 
 /// Is the greatest number of a stream or a condition; its opposite is the least.
 pub const STREAM_MAX: i64 = 1_099_511_627_775;
@@ -49,7 +54,7 @@ pub struct Value {
 impl Model for Value {
     ghost use Rattle.std.specs.Prelude.{Option, ℤ};
     ghost use Rattle.std.proofs.Common.{ap};
-    ghost use Rattle.values.specs.Value.{IsAnswerValue};
+    ghost use Rattle.values.specs.Ranges.{IsAnswerValue};
     ghost use Rattle.values.specs.Word.{value_of_word, word_of_value};
     ghost use Rattle.values.specs.WordLaws.{word_back};
     ghost use Rattle.values.specs.declared.Value.TheInside.{Inside};
@@ -176,7 +181,7 @@ impl Ord for Value {
 
 impl fmt::Display for Value {
     ghost use Rattle.std.specs.Prelude.{Some};
-    ghost use Rattle.values.specs.Value.{value_text};
+    ghost use Rattle.values.specs.Text.{value_text};
 
     ghost output = { λ value. Some (value_text value) };
 
@@ -190,7 +195,7 @@ impl fmt::Display for Value {
 
 impl fmt::Debug for Value {
     ghost use Rattle.std.specs.Prelude.{Some};
-    ghost use Rattle.values.specs.Value.{value_text};
+    ghost use Rattle.values.specs.Text.{value_text};
 
     ghost debug_output = { λ value. Some (value_text value) };
 

@@ -1,6 +1,8 @@
 //! Holds queries with their names resolved. Sources and columns go by their places, both counted
 //! from 0 in the order of From and of the stream's declaration.
 
+use crate::reach::Reach;
+
 /// Names a column of a source of the query. Both are counted from 0, in the order of From and of
 /// the stream's declaration.
 #[derive(Clone, Copy, Debug, PartialEq, Eq)]
@@ -42,15 +44,8 @@ pub enum Condition {
 /// Says which rows of a source the query sees at an instant.
 #[derive(Drop)]
 pub enum Window {
-    /// Shows the rows of this instant and of as many instants before it as the number says: 0 is
-    /// Now.
-    Range(u64),
-    /// Shows what Range of the first number shows at an earlier instant: the greatest multiple of
-    /// the second number that is at most this instant. The second number is not 0. It shows no rows
-    /// where that multiple is not above the query's base.
-    RangeSlide(u64, u64),
-    /// Shows all rows so far.
-    Unbounded,
+    /// Shows the rows of some instants.
+    Instants(Reach),
     /// Shows the last rows of each partition, as many as the number says. A partition is the rows
     /// that are equal in the columns, nulls being equal to each other. With no column all rows are
     /// one partition. Of two rows of an instant the later arrival is last.

@@ -2,8 +2,11 @@
 use Rattle.std.proofs.Common.{◌≡◌, ℕ, zero, suc, ◌+◌, ◌-◌, ◌≤◌, ◌<◌, Bool, true, false, cond, not, List, [], ◌∷◌, ◌++◌, map, filter, length, take, drop, refl, ap, ap₂, sym, ◌∙◌, subst, arith, append-nil, append_assoc, true≢false, length-append, take-append-drop}
 use Rattle.std.proofs.lemmas.List.{map-append, take-append-le, take_all, length-map, take-map}
 use Rattle.std.proofs.lemmas.List.Elements.{filter-append}
+use Rattle.values.specs.Moving.{at_once, moves}
 use Rattle.values.specs.Row.{Row}
-use Rattle.values.specs.Window.{Element, Window, plain, shows, window_rows}
+use Rattle.values.specs.Window.{Element, Window, Instants, shows, window_rows}
+use Rattle.values.specs.Plain.{plain}
+use Rattle.values.proofs.ReachLemmas.{all_shown, moves_first, not_reached, now_shown, past_gone, still_shown}
 use Rattle.op_queue.specs.Entries.{Entry, RowAt, TickAt}
 use Rattle.op_queue.specs.Paths.{rows_in}
 use Rattle.op_queue.specs.Signed.{Same, Turns}
@@ -12,9 +15,7 @@ use Rattle.op_queue.proofs.PathLemmas.{rows_in-append, rows_in-batch}
 use Rattle.op_queue.proofs.SignedLemmas.{Same-refl, Turns-none, Turns-append}
 use Rattle.windows.specs.Laws.{AreShown, Each, InstantsStand, WindowRows, WindowTick, coming, rows_in_order, shown_of}
 use Rattle.windows.specs.Instants.{InstantState, entering, held_at, is_past, leaving, moved, near, near_at, next, no_rows, out, signed, with_rows}
-use Rattle.windows.specs.Reach.{at_once, moves, window_of}
 use Rattle.windows.proofs.MoveLemmas.{all_come, some_leave}
-use Rattle.windows.proofs.ReachLemmas.{all_shown, by_itself, moves_first, not_yet, now_shown, past_gone, still_shown}
 use Rattle.windows.proofs.WindowLemmas.{Each_append, Each_filter, Each_map, filter_each, filter_through}
 
 pub same_of : (xs ys : List Row) → xs ≡ ys → Same xs ys
@@ -72,7 +73,7 @@ passed p q (e ∷ es) h = here (q e) refl (passed p q es h.1)
 -- ---- rows
 module _ (from t : ℕ) (s : InstantState) (held es : List Element) (h : InstantsStand from t s held) (now : Each (λ e. e.instant ≡ t) es) where
   abbrev v : Window
-  v = window_of s.reach
+  v = Instants s.reach
 
   held_then : s.held ++ map (held_at t) (coming es) ≡ plain (held ++ es)
   held_then =
@@ -90,11 +91,11 @@ module _ (from t : ℕ) (s : InstantState) (held es : List Element) (h : Instant
   still o u is =
       let p : Element → Bool = shows from v u held in
       let q : Element → Bool = shows from v u (held ++ es) in
-      let none : filter q es ≡ [] = none_pass q es (Each_map (λ e. e.instant ≡ t) (λ e. q e ≡ false) (λ e i. not_yet s.reach from u (held ++ es) e o (i ∙ sym is)) es now) in
+      let none : filter q es ≡ [] = none_pass q es (Each_map (λ e. e.instant ≡ t) (λ e. q e ≡ false) (λ e i. not_reached s.reach from u e.instant (omega (arith, i, is))) es now) in
       let before : filter p held ≡ take s.shown held = waited (at_once s.reach) o h.shown u is in
       filter-append q held es
       ∙ ap (λ l. filter q held ++ l) none ∙ append-nil (filter q held)
-      ∙ filter_each q p held (each_of (λ e. q e ≡ p e) (λ e. by_itself s.reach from u (held ++ es) held e) held)
+      ∙ filter_each q p held (each_of (λ e. q e ≡ p e) (λ e. refl) held)
       ∙ before ∙ sym (take-append-le s.shown held es h.few)
     where
       waited : (b : Bool) → b ≡ false → AreShown b from t s held → (u : ℕ) → suc u ≡ t → shown_of from v u held ≡ take s.shown held
@@ -165,14 +166,14 @@ module _ (from t : ℕ) (s : InstantState) (held : List Element) (h : InstantsSt
   stay e = not (past e)
 
   abbrev w : Window
-  w = window_of s.reach
+  w = Instants s.reach
 
   up_to_next : Each (λ e. e.instant ≤ t + 1) held
   up_to_next = Each_map (λ e. e.instant ≤ t) (λ e. e.instant ≤ t + 1) (λ e i. omega (arith, i)) held h.up_to
 
   -- WHERE IT MOVES
   shown_now : (es : List Element) → moves s.reach t ≡ true → Each (λ e. shows from w t es e ≡ stay e) held
-  shown_now es m = Each_map (λ e. e.instant ≤ t) (λ e. shows from w t es e ≡ stay e) (λ e i. now_shown s.reach from t es e m h.began i) held h.up_to
+  shown_now es m = Each_map (λ e. e.instant ≤ t) (λ e. shows from w t es e ≡ stay e) (λ e i. now_shown s.reach from t e.instant m h.began i) held h.up_to
 
   window_now : moves s.reach t ≡ true → filter (shows from w t held) held ≡ filter stay held
   window_now m = filter_each (shows from w t held) stay held (shown_now held m)
@@ -181,10 +182,10 @@ module _ (from t : ℕ) (s : InstantState) (held : List Element) (h : InstantsSt
   stays_later u later m lt =
       let q : Element → Bool = shows from w u (held ++ later) in
       let r : Element → Bool = shows from w u (filter stay held ++ later) in
-      let same : (e : Element) → q e ≡ r e = λ e. by_itself s.reach from u (held ++ later) (filter stay held ++ later) e in
+      let same : (e : Element) → q e ≡ r e = λ e. refl in
       ap rows_in_order
       (filter-append q held later
-      ∙ ap (λ l. l ++ filter q later) (filter_through stay q r held (each_of (λ e. (stay e ≡ true → q e ≡ r e) × (stay e ≡ false → q e ≡ false)) (λ e. (λ k. same e, λ k. past_gone s.reach from t u (held ++ later) e m lt k)) held))
+      ∙ ap (λ l. l ++ filter q later) (filter_through stay q r held (each_of (λ e. (stay e ≡ true → q e ≡ r e) × (stay e ≡ false → q e ≡ false)) (λ e. (λ k. same e, λ k. past_gone s.reach from t u e.instant m lt k)) held))
       ∙ ap (λ l. filter r (filter stay held) ++ l) (filter_each q r later (each_of (λ e. q e ≡ r e) same later))
       ∙ sym (filter-append r (filter stay held) later))
 
@@ -255,7 +256,7 @@ module _ (from t : ℕ) (s : InstantState) (held : List Element) (h : InstantsSt
   -- WHERE IT DOES NOT, what it has put out is what it shows
   shows_still : (b : Bool) → at_once s.reach ≡ b → AreShown b from t s held → moves s.reach t ≡ false → shown_of from w t held ≡ take s.shown held
   shows_still true o k m =
-      all_pass (shows from w t held) held (Each_map (λ e. e.instant ≤ t) (λ e. shows from w t held e ≡ true) (λ e i. all_shown s.reach from t held e o m i) held h.up_to)
+      all_pass (shows from w t held) held (Each_map (λ e. e.instant ≤ t) (λ e. shows from w t held e ≡ true) (λ e i. all_shown s.reach from t e.instant o m i) held h.up_to)
       ∙ sym (take_all s.shown held (omega (arith, k)))
   shows_still false o k m = here t refl
     where
@@ -265,7 +266,7 @@ module _ (from t : ℕ) (s : InstantState) (held : List Element) (h : InstantsSt
           let p : Element → Bool = shows from w (suc u) held in
           let q : Element → Bool = shows from w u held in
           ap (λ k. shown_of from w k held) (sym e)
-          ∙ filter_each p q held (each_of (λ x. p x ≡ q x) (λ x. still_shown s.reach from u held x o (ap (moves s.reach) e ∙ m)) held)
+          ∙ filter_each p q held (each_of (λ x. p x ≡ q x) (λ x. still_shown s.reach from u x.instant o (ap (moves s.reach) e ∙ m)) held)
           ∙ k u e
 
   waits_shown : (b : Bool) → at_once s.reach ≡ b → AreShown b from t s held → moves s.reach t ≡ false → AreShown b from (t + 1) s held

@@ -6,13 +6,14 @@ use Rattle.std.proofs.lemmas.List.{drop-map, length-map, map-append, take-map, t
 use Rattle.std.proofs.lemmas.List.Sums.{length-filter, count_by-le-length}
 use Rattle.values.specs.Row.{Row}
 use Rattle.std.proofs.lemmas.List.Elements.{All-nil, All-drop, All-filter, All-map, All-take}
-use Rattle.op_queue.specs.Entries.{Entry, IsForward, RowAt, TickAt}
+use Rattle.op_queue.specs.Entries.{Entry, RowAt, TickAt}
+use Rattle.op_queue.specs.Forward.{IsForward}
 use Rattle.op_queue.specs.Queues.{HasGained, Waiting, first_begins}
 use Rattle.op_queue.proofs.GainLemmas.{gained-item, gained-more, gained-same}
 use Rattle.op_queue.specs.declared.item.Item.{Item}
 use Rattle.op_queue.specs.declared.item.Item.TheVariants.{Rows, Tick}
 use Rattle.windows.specs.Instants.{HaveOneWidthIn, InstantState, IsInOrder, entering, is_past, leaving, moved, moved_out, near, near_at, no_rows, out, past_count, signed, tick_out, with_rows}
-use Rattle.windows.specs.Reach.{moves, oldest}
+use Rattle.values.specs.Moving.{moves, oldest}
 use Rattle.windows.proofs.LeavingLemmas.{IsForward-front, near_count}
 use Rattle.windows.proofs.OrderLemmas.{is_below, drop-below, below-none, sorted-head, sorted-tail}
 

@@ -14,7 +14,6 @@ pub mod WindowLemmas
 pub mod MoveLemmas
 pub mod ShownLemmas
 pub mod LatestLaw
-pub mod ReachLemmas
 pub mod InstantsLemmas
 pub mod StillLemmas
 pub mod InstantsLaw

@@ -4,7 +4,8 @@ use Rattle.std.specs.List.{All}
 use Rattle.std.proofs.lemmas.List.{length-map, length-take-le, length-drop}
 use Rattle.std.proofs.lemmas.List.Elements.{All-append, All-cons, All-drop, All-filter, All-head, All-map, All-nil, All-tail, All-take}
 use Rattle.values.specs.Row.{Row, same_row}
-use Rattle.values.specs.Window.{Element, plain}
+use Rattle.values.specs.Window.{Element}
+use Rattle.values.specs.Plain.{plain}
 use Rattle.op_queue.specs.Entries.{Entry, RowAt, TickAt}
 use Rattle.op_queue.specs.Paths.{rows_in}
 use Rattle.op_queue.specs.Signed.{weigh, up}
@@ -15,7 +16,7 @@ use Rattle.windows.specs.Instants as instants
 use Rattle.windows.specs.Instants.{InstantState, entering, is_past, leaving, near_at, no_rows, signed}
 use Rattle.windows.specs.Latest as latest
 use Rattle.windows.specs.Laws.{AreShown, AreUpTo, InstantsStand, LatestStands, Stands, is_of, rows_in_order, shown_by}
-use Rattle.windows.specs.Reach.{at_once, moves}
+use Rattle.values.specs.Moving.{at_once, moves}
 use Rattle.windows.specs.Windows.{IsAfter, WindowState, near, out}
 use Rattle.windows.specs.declared.window.Holding.TheVariants.{Instants, Latest}
 use Rattle.windows.proofs.InstantsLaw.{length_plain, rows_of_tick}

@@ -7,7 +7,7 @@ use Rattle.std.specs.BTreeMap.{is_at}
 use Rattle.std.specs.Cmp.{Equal-is}
 use Rattle.std.proofs.lemmas.Cmp.{eq_by_cmp_equiv, on_total}
 use Rattle.std.proofs.lemmas.Map.{lookup-set_value}
-use Rattle.values.specs.Bag.{IsExactOrder}
+use Rattle.values.specs.Orders.{IsExactOrder}
 use Rattle.values.specs.Row.{Row, row_cmp, same_row}
 use Rattle.values.proofs.Bags.{same_itself}
 use Rattle.values.proofs.Order.{row_order}

@@ -2,8 +2,13 @@
 use Rattle.std.proofs.Common.{◌≡◌, ℕ, zero, suc, ◌+◌, ◌-◌, ◌<◌, ◌≤◌, Bool, true, false, cond, not, List, [], ◌∷◌, map, filter, length, take, drop, inl, inr, refl, sym, ap, ◌∙◌, subst, subst₂, arith}
 use Rattle.std.proofs.lemmas.Bool.Decides.{nat_tests}
 use Rattle.std.proofs.lemmas.List.{drop_all, take_all}
+use Rattle.values.specs.Moving.{at_once, moves, oldest}
 use Rattle.values.specs.Row.{Row}
-use Rattle.values.specs.Window.{Element, Window, LastRows, plain, window_rows}
+use Rattle.values.specs.Window as shown
+use Rattle.values.specs.Window.{Element, Window, LastRows, window_rows}
+use Rattle.values.specs.Plain.{plain}
+use Rattle.values.specs.declared.reach.Reach.{Reach}
+use Rattle.values.proofs.ReachLemmas.{oldest_rises}
 use Rattle.op_queue.specs.Entries.{Entry, TickAt}
 use Rattle.op_queue.specs.Paths.{rows_in}
 use Rattle.op_queue.specs.Signed.{Same, Turns}
@@ -11,9 +16,6 @@ use Rattle.op_queue.specs.declared.item.Item.TheVariants.{Tick}
 use Rattle.op_queue.proofs.SignedLemmas.{Same-from_none, Same-trans}
 use Rattle.windows.specs.Instants.{InstantState, Stays, is_past, moved, near, near_at, next, no_rows, out, rows_in as rows_of, with_rows}
 use Rattle.windows.specs.Laws.{InstantsStand, LatestStands, WindowTick, rows_in_order}
-use Rattle.windows.specs.Reach.{at_once, moves, oldest, window_of}
-use Rattle.windows.specs.declared.reach.Reach.{Reach}
-use Rattle.windows.specs.declared.reach.Reach.TheVariants.{All, Last, Steps}
 use Rattle.windows.proofs.InstantsLaw.{held_after, instant_tick, rows_of_tick}
 use Rattle.windows.proofs.LatestLaw.{latest_tick}
 
@@ -23,11 +25,6 @@ quiet_tick {o = o} {o2 = o2} law e = let P : List (Bool × Row) → Type 0 = λ 
 
 -- ---- instants
 -- none of its rows is past at the last of them, so none is before
-oldest_rises : (r : Reach) (t u : ℕ) → t ≤ u → oldest r t ≤ oldest r u
-oldest_rises All t u le = omega arith
-oldest_rises (Last n) t u le = omega (arith, le)
-oldest_rises (Steps n l) t u le = omega (arith, le)
-
 below_all : (r : Reach) (t u : ℕ) → t ≤ u → (held : List (ℕ × Row)) → filter (is_past r u) held ≡ [] → filter (is_past r t) held ≡ []
 below_all r t u le [] e = refl
 below_all r t u le (h ∷ hs) e = here (is_past r u h) refl e (λ x. below_all r t u le hs x)
@@ -113,7 +110,7 @@ instants_on first s n b held le z h =
     subst (λ t. InstantsStand first t s held) e (stand_along first s n (b - n) held (λ t x y. unchanged s n b held z h.same t x (omega (arith, y, le))) h)
 
 pub instants_quiet : (first : ℕ) (s : InstantState) (n b : ℕ) (held : List Element) → Stays n b s → InstantsStand first n s held
-    → (t : ℕ) → n ≤ t → t < b → Same (rows_in_order (take s.shown held)) (window_rows first (window_of s.reach) t held)
+    → (t : ℕ) → n ≤ t → t < b → Same (rows_in_order (take s.shown held)) (window_rows first (shown.Instants s.reach) t held)
 instants_quiet first s n b held z h t x y =
     let e : n + (t - n) ≡ t = omega (arith, x) in
     let at : InstantsStand first t s held = subst (λ u. InstantsStand first u s held) e (stand_along first s n (t - n) held (λ u i j. unchanged s n b held z h.same u i (omega (arith, j, y, x))) h) in

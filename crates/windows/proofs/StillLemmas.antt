@@ -5,7 +5,7 @@ use Rattle.std.proofs.lemmas.Bool.{cases_lt}
 use Rattle.std.proofs.lemmas.Bool.Decides.{nat_tests}
 use Rattle.values.specs.Row.{Row}
 use Rattle.windows.specs.Instants.{InstantState, Stays, is_past}
-use Rattle.windows.specs.Reach.{moves}
+use Rattle.values.specs.Moving.{moves}
 
 not_below : (i k r : ℕ) → nat_lt i r ≡ false → k ≤ r → nat_lt i k ≡ false
 not_below i k r is le = grind (arith, nat_tests)

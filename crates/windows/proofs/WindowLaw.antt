@@ -1,5 +1,6 @@
 -- The laws of a window, whatever its kind.
 use Rattle.std.proofs.Common.{◌≡◌, ℕ, ◌+◌, ◌-◌, ◌<◌, ◌≤◌, Bool, true, false, cond, not, List, [], ◌∷◌, ◌++◌, filter, take, refl, ap, ap₂, sym, ◌∙◌, subst, subst₂, arith}
+use Rattle.values.specs.Moving as moving
 use Rattle.values.specs.Row.{Row}
 use Rattle.values.specs.Window.{Element, LastRows, Window, shows}
 use Rattle.op_queue.specs.Items.{item_instant}
@@ -11,7 +12,6 @@ use Rattle.windows.specs.Instants.{InstantState}
 use Rattle.windows.specs.Latest as latest
 use Rattle.windows.specs.Latest.{LatestState, held_in}
 use Rattle.windows.specs.Laws.{AreShown, Each, InstantsStand, IsPart, IsRising, LatestStands, PassesTicks, Stands, TakesRows, TakesTick, WindowRows, WindowTick, coming, rows_in_order, shown_by, shown_of}
-use Rattle.windows.specs.Reach as reach
 use Rattle.windows.specs.Widths.{IsItemWide}
 use Rattle.windows.specs.Windows.{Begins, IsAfter, IsEmpty, IsNext, MayTake, Stays, WindowState, near, out, width_of, window_of}
 use Rattle.windows.specs.declared.window.Holding.TheVariants.{Instants, Latest}
@@ -45,7 +45,7 @@ pub record SameWindow (s new : WindowState) : Type 0 where
 
 instants_same : (s : InstantState) (i : Item) → SameWindow (Instants s) (Instants (instants.next s i))
 instants_same s (Rows t b) = record { window = refl; width = refl }
-instants_same s (Tick t) = here (reach.moves s.reach t)
+instants_same s (Tick t) = here (moving.moves s.reach t)
   where
     here : (m : Bool) → SameWindow (Instants s) (Instants (cond m (instants.moved s t) s))
     here true = record { window = refl; width = refl }
@@ -75,7 +75,7 @@ takes_rows first (Latest s) (Latest new) t held es h now rising n =
 pub takes_tick : (first : ℕ) (s new : WindowState) (t : ℕ) (held : List Element) → Stands first t s held → IsNext s (Tick t) new → TakesTick first t s new held
 takes_tick first (Instants s) new t held h n =
     let law = instant_tick first t s held h in
-    subst (λ x. TakesTick first t (Instants s) x held) (sym n) (record { held2 = held_after s t held; law = law.0; part = part_after s t held (reach.moves s.reach t); stands = law.1 })
+    subst (λ x. TakesTick first t (Instants s) x held) (sym n) (record { held2 = held_after s t held; law = law.0; part = part_after s t held (moving.moves s.reach t); stands = law.1 })
 takes_tick first (Latest s) (Instants new) t held h n = absurd n
 takes_tick first (Latest s) (Latest new) t held h n =
     let law = latest_tick first s.columns s.count (held_in s.entries) t held h in
@@ -97,7 +97,7 @@ none_shown true first s e = e
 none_shown false first s e = λ u is. sym (ap (λ n. take n []) e)
 
 pub begins_empty : (first : ℕ) (s : WindowState) → IsEmpty s → Stands first first s []
-begins_empty first (Instants s) h = record { same = h.0; up_to = tt; began = omega arith; few = omega (arith, h.1); shown = none_shown (reach.at_once s.reach) first s h.1 }
+begins_empty first (Instants s) h = record { same = h.0; up_to = tt; began = omega arith; few = omega (arith, h.1); shown = none_shown (moving.at_once s.reach) first s h.1 }
 begins_empty first (Latest s) h = record { parts = λ k. h k; rising = tt; up_to = tt; shown = refl }
 
 pub shows_none : (s : WindowState) → IsEmpty s → [] ≡ shown_by s []

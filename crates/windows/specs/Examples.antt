@@ -2,13 +2,13 @@
 use Rattle.std.specs.Prelude.{◌≡◌, ℕ, ℤ, Bool, true, false, Option, None, Some, pos, List, [], ◌∷◌}
 use Rattle.std.specs.Prelude.{refl}
 use Rattle.values.specs.Row.{Row}
+use Rattle.values.specs.declared.reach.Reach.TheVariants.{All, Last, Steps}
 use Rattle.op_queue.specs.Entries.{RowAt, TickAt}
 use Rattle.op_queue.specs.declared.item.Item.TheVariants.{Rows, Tick}
 use Rattle.windows.specs.declared.runs.Run.{Run}
 use Rattle.windows.specs.Held.{cut_rows, held_in}
 use Rattle.windows.specs.Instants.{InstantExcerpt, InstantState, near, next, out}
 use Rattle.windows.specs.Latest as latest
-use Rattle.windows.specs.declared.reach.Reach.TheVariants.{All, Last, Steps}
 
 abbrev one : ℕ → Row
 one n = Some (pos n) ∷ []

@@ -3,13 +3,13 @@ use Rattle.std.specs.Prelude.{ℕ, ◌≡◌, ◌-◌, ◌<◌, ◌≤◌, ◌�
 use Rattle.std.specs.Prelude.{List, [], ◌∷◌, ◌++◌, map, length, take, drop}
 use Rattle.std.specs.List.{filter, All}
 use Rattle.std.specs.List.Sorted.{IsNonDecreasingBy}
+use Rattle.values.specs.Moving.{at_once, moves, oldest}
 use Rattle.values.specs.Row.{Row}
+use Rattle.values.specs.declared.reach.Reach.{Reach}
 use Rattle.op_queue.specs.Entries.{Entry, RowAt, TickAt}
 use Rattle.op_queue.specs.declared.item.Item.{Item}
 use Rattle.op_queue.specs.declared.item.Item.TheVariants.{Rows, Tick}
-use Rattle.windows.specs.Reach.{IsReach, at_once, moves, oldest}
 use Rattle.windows.specs.Widths.{AreWide}
-use Rattle.windows.specs.declared.reach.Reach.{Reach}
 
 -- which instants it shows; how many columns its rows have; its rows with their instants,
 -- in order; and how many of them, from the first on, it shows
@@ -25,9 +25,8 @@ pub record IsInOrder (w : ℕ) (held : List (ℕ × Row)) : Type 0 where
   pub wide : All (λ h. length h.1 ≡ w) held
 
 -- and those that are shown are in front
-pub record IsInstants (r : Reach) (w : ℕ) (held : List (ℕ × Row)) (shown : ℕ) : Type 0 where
+pub record IsInstants (w : ℕ) (held : List (ℕ × Row)) (shown : ℕ) : Type 0 where
   pub order : IsInOrder w held
-  pub reach : IsReach r
   pub few : shown ≤ length held
 
 -- once it has moved at the tick of the instant t, the row is of an earlier instant than it shows

@@ -2,16 +2,17 @@
 -- (Arasu, Babu and Widom, "The CQL continuous query language", 2006).
 use Rattle.std.specs.Prelude.{ℕ, suc, take, length, ◌+◌, ◌<◌, ◌≤◌, ◌≡◌, Bool, true, false, List, []}
 use Rattle.std.specs.Prelude.{◌∷◌, ◌++◌, map, filter}
+use Rattle.values.specs.Moving.{at_once}
 use Rattle.values.specs.Row.{Row, same_row}
+use Rattle.values.specs.Window as shown
 use Rattle.values.specs.Window.{Element, Window, LastRows, is_later}
-use Rattle.values.specs.Window.{plain, shows, window_rows}
+use Rattle.values.specs.Window.{shows, window_rows}
+use Rattle.values.specs.Plain.{plain}
 use Rattle.op_queue.specs.Paths.{rows_in}
 use Rattle.op_queue.specs.Signed.{Same, Turns}
 use Rattle.op_queue.specs.declared.item.Item.TheVariants.{Rows, Tick}
 use Rattle.windows.specs.Instants.{InstantState}
 use Rattle.windows.specs.Latest.{held_in, key_in}
-use Rattle.windows.specs.Reach as reach
-use Rattle.windows.specs.Reach.{at_once}
 use Rattle.windows.specs.Windows.{WindowState, near, out, window_of}
 use Rattle.windows.specs.declared.window.Holding.TheVariants.{Instants, Latest}
 
@@ -75,7 +76,7 @@ pub record IsPart (part es : List Element) : Type 0 where
 abbrev pub AreShown : Bool → ℕ → ℕ → InstantState → List Element → Type 0
 AreShown true from t s held = s.shown ≡ length held
 AreShown false from t s held = (u : ℕ) → suc u ≡ t
-    → shown_of from (reach.window_of s.reach) u held ≡ take s.shown held
+    → shown_of from (shown.Instants s.reach) u held ≡ take s.shown held
 
 -- at the open instant t the state holds these elements
 pub record InstantsStand (from t : ℕ) (s : InstantState) (held : List Element) : Type 0 where

@@ -1,7 +1,6 @@
 pub mod Widths
 pub mod Held
 pub mod Fallen
-pub mod Reach
 pub mod Instants
 pub mod Latest
 pub mod Windows

@@ -1,6 +1,6 @@
 -- The turns of a window, whatever its kind: it shows rows by their instants, or the last of each
 -- partition.
-use Rattle.std.specs.Prelude.{ℕ, ◌≡◌, ◌<◌, ◌≤◌, List, [], length}
+use Rattle.std.specs.Prelude.{ℕ, ◌≡◌, ◌≤◌, List, [], length}
 use Rattle.values.specs.Row.{Row}
 use Rattle.values.specs.Window as shown
 use Rattle.values.specs.declared.TheConstants.{MAX_COLUMNS}
@@ -12,7 +12,6 @@ use Rattle.op_queue.specs.declared.item.Item.{Item}
 use Rattle.windows.specs.Instants as instants
 use Rattle.windows.specs.Latest as latest
 use Rattle.windows.specs.Latest.{LatestState}
-use Rattle.windows.specs.Reach as reach
 use Rattle.windows.specs.Widths.{IsItemWide}
 use Rattle.windows.specs.declared.window.Holding.{Holding}
 use Rattle.windows.specs.declared.window.Holding.TheVariants.{Instants, Latest}
@@ -28,7 +27,7 @@ WindowExcerpt = Needed
 
 -- which window of the query language it is
 abbrev pub window_of : WindowState → shown.Window
-window_of (Instants s) = reach.window_of s.reach
+window_of (Instants s) = shown.Instants s.reach
 window_of (Latest s) = shown.LastRows s.columns s.count
 
 -- how many columns its rows have
@@ -84,10 +83,7 @@ pub record Begins (window : shown.Window) (width : ℕ) (s : WindowState) : Type
   pub wide : width_of s ≡ width
   pub empty : IsEmpty s
 
--- the caller's condition: it moves at the multiples of one
--- or more, and a partition is by no more columns than a row has
+-- the caller's condition: a partition is by no more columns than a row has
 abbrev pub IsFormed : Told → Type 0
-IsFormed (told.Range n) = Unit {0}
-IsFormed (told.RangeSlide n l) = 0 < l
-IsFormed told.Unbounded = Unit {0}
+IsFormed (told.Instants r) = Unit {0}
 IsFormed (told.LastRows columns n) = length columns.items ≤ MAX_COLUMNS

@@ -6,7 +6,7 @@ ghost use Rattle.std.specs.List.Sorted.{IsNonDecreasingBy};
 ghost use Rattle.column.specs.Rows.{IsTable, width};
 ghost use Rattle.windows.specs.Instants.{held_at, with_sign};
 
-use crate::flat_rows::FlatRows;
+use crate::row_deque::RowDeque;
 use crate::row_table::RowTable;
 use crate::runs::{Run, count_below, leave, lengthen, shorten};
 use column::{Batch, MAX_ROWS};
@@ -20,7 +20,7 @@ use std::marker::Model;
 #[derive(Drop)]
 pub(crate) struct HeldRows {
     /// Holds the rows, the oldest first.
-    rows: FlatRows,
+    rows: RowDeque,
     /// Holds the rows' instants in the same order, each with how many rows in succession have it.
     runs: VecDeque<Run>,
 }
@@ -42,7 +42,7 @@ impl HeldRows {
         ensures held { result.held ≡ [] }
     {
         HeldRows {
-            rows: FlatRows::new(alloc, width),
+            rows: RowDeque::new(alloc, width),
             runs: VecDeque::new(alloc),
         }
     }

@@ -6,7 +6,7 @@ ghost use Rattle.windows.specs.Fallen.{IsBeside};
 ghost use Rattle.windows.specs.Latest.{last_of, row_in};
 ghost use Rattle.windows.specs.Widths.{AreWide};
 
-use crate::flat_rows::FlatRows;
+use crate::row_deque::RowDeque;
 use std::alloc::{AllocError, Global};
 use std::marker::Model;
 use values::Row;
@@ -15,7 +15,7 @@ use values::Row;
 #[derive(Drop)]
 pub(crate) struct Last {
     /// Holds the rows, the oldest first.
-    rows: FlatRows,
+    rows: RowDeque,
 }
 
 impl Model for Last {
@@ -34,7 +34,7 @@ impl Last {
     {
         // the first row that enters sets the width
         Last {
-            rows: FlatRows::new(alloc, 0),
+            rows: RowDeque::new(alloc, 0),
         }
     }
 

@@ -5,7 +5,6 @@
 #![tactic(auto)]
 
 mod fallen_rows;
-mod flat_rows;
 mod held;
 mod instants;
 mod keyed_parts;
@@ -14,7 +13,7 @@ mod latest;
 mod laws;
 mod outputs;
 mod parts;
-mod reach;
+mod row_deque;
 mod row_table;
 mod runs;
 mod window;

@@ -3,11 +3,10 @@ ghost use Rattle.std.specs.Prelude.{◌≡◌, ℕ, ◌<◌, ◌≤◌, ◌++◌
 ghost use Rattle.std.specs.Prelude.{length};
 ghost use Rattle.std.specs.List.{flat_map};
 ghost use Rattle.values.specs.Resolved as told;
-ghost use Rattle.values.specs.Window.{LastRows};
-ghost use Rattle.op_queue.specs.Entries.{IsForward};
+ghost use Rattle.values.specs.Window.{Instants, LastRows};
+ghost use Rattle.op_queue.specs.Forward.{IsForward};
 ghost use Rattle.op_queue.specs.Items.{entries_of};
 ghost use Rattle.op_queue.specs.Queues.{HasGained, HasGrown};
-ghost use Rattle.windows.specs.Reach.{IsReach, window_of};
 ghost use Rattle.windows.specs.Widths.{IsItemWide};
 ghost use Rattle.windows.specs.Windows.{Begins, Fits, IsFormed, IsNext, MayTake, Stays, near, out};
 ghost use Rattle.windows.specs.Windows.{width_of};
@@ -15,11 +14,10 @@ ghost use Rattle.windows.specs.Windows.{width_of};
 use crate::fallen_rows::FallenRows;
 use crate::instants::{InstantExcerpt, InstantWindow, instant_work};
 use crate::latest::{LatestWindow, latest_work};
-use crate::reach::Reach;
 use op_queue::{Item, Queue};
 use std::alloc::{AllocError, Global};
 use std::marker::Model;
-use values::MAX_COLUMNS;
+use values::{MAX_COLUMNS, Reach};
 
 /// Holds what a window keeps of its stream between turns.
 #[derive(Drop)]
@@ -93,11 +91,7 @@ impl Window {
         ensures { IfOk result (Begins (told.window_of window.now) width) }
     {
         match window {
-            values::Window::Range(span) => Ok(of_reach(alloc, Reach::Last(*span), width)),
-            values::Window::RangeSlide(span, step) => {
-                Ok(of_reach(alloc, Reach::Steps(*span, *step), width))
-            },
-            values::Window::Unbounded => Ok(of_reach(alloc, Reach::All, width)),
+            values::Window::Instants(reach) => Ok(of_reach(alloc, *reach, width)),
             values::Window::LastRows(columns, count) => of_last(alloc, columns, *count, width),
         }
     }
@@ -179,8 +173,7 @@ impl Window {
 
 /// Returns a window without rows that shows the instants of a reach.
 fn of_reach(alloc: Global, reach: Reach, width: usize) -> Window
-    requires { IsReach reach }
-    ensures { Begins (window_of reach) width result }
+    ensures { Begins (Instants reach) width result }
 {
     Window {
         holding: Holding::Instants(InstantWindow::new(alloc, reach, width)),

@@ -1,16 +1,15 @@
 -- Alike worlds are answered by the same script.
 use Rattle.std.proofs.Common.{◌≡◌, ℕ, List, [], ◌∷◌, Option, Some, None, Result, Ok, Err, refl, ap, ap₂, subst}
 use Rattle.reference.specs.Alike.{Alike}
-use Rattle.reference.specs.World.{World, append_step, drop_step, heartbeat_step, peek_at, query_named, slopes_at, stream_named, take_step}
-use Rattle.reference.specs.Status.{status_of}
+use Rattle.reference.specs.World.{World, append_step, drop_step, heartbeat_step, query_named, stream_named, take_step}
 use Rattle.reference.specs.declared.fault.Fault.{Fault}
 use Rattle.reference.specs.declared.fault.Fault.TheVariants.{UnknownQuery, UnknownStream}
 use Rattle.laws_forgetting.specs.Answers.{AnswerAlike}
 use Rattle.laws_forgetting.proofs.WorldLemmas.{answer_alike}
-use Rattle.wire.specs.Calls.{Call, declare, register, append, heartbeat, drain, take_rows, peek_rows, drop_query, forget, show_plan, show_status}
-use Rattle.wire.specs.Printed.{Answer, status, line_of}
+use Rattle.wire.specs.Calls.{Call, declare, register, append, heartbeat, drain, take_rows, drop_query, forget, look}
+use Rattle.wire.specs.Printed.{Answer, line_of}
 use Rattle.wire.specs.Requests.{requests_of}
-use Rattle.wire.specs.Script.{answered, done_of, done_step, if_named, operators_or, replies, rows_of, rows_step, script, served}
+use Rattle.wire.specs.Script.{answered, done_of, done_step, if_named, replies, rows_of, rows_step, script, seen_or, served}
 use Rattle.wire.specs.declared.request.WireFault.{WireFault}
 
 -- the same answer, and alike worlds
@@ -39,14 +38,10 @@ module _ (w v : World) (h : Alike w v) where
   answered_alike drain = let s = all.drain 1 in (ap done_of s.answer, s.worlds)
   answered_alike (take_rows query limit) =
       named UnknownQuery (λ n. rows_step (take_step w n limit)) (λ n. rows_step (take_step v n limit)) (λ n. let s = all.take n limit in (ap rows_of s.answer, s.worlds)) (query_named w query) (query_named v query) (all.queries query)
-  answered_alike (peek_rows query limit) =
-      named UnknownQuery (λ n. (rows_of (peek_at w n limit), w)) (λ n. (rows_of (peek_at v n limit), v)) (λ n. (ap rows_of (all.peek n limit), h)) (query_named w query) (query_named v query) (all.queries query)
-  answered_alike (show_plan query) =
-      named UnknownQuery (λ n. (operators_or (slopes_at w n), w)) (λ n. (operators_or (slopes_at v n), v)) (λ n. (ap operators_or (all.slopes n), h)) (query_named w query) (query_named v query) (all.queries query)
   answered_alike (drop_query query) =
       named UnknownQuery (λ n. done_step (drop_step w n)) (λ n. done_step (drop_step v n)) (λ n. let s = all.drop n in (ap done_of s.answer, s.worlds)) (query_named w query) (query_named v query) (all.queries query)
   answered_alike forget = (refl, h)
-  answered_alike show_status = (ap status all.status, h)
+  answered_alike (look asked) = (ap seen_or (all.look asked), h)
 
   pub served_alike : (request : Result Call WireFault) → Same (served w request) (served v request)
   served_alike (Err fault) = (refl, h)

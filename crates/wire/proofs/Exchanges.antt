@@ -3,9 +3,11 @@ use Rattle.std.proofs.Common.{◌≡◌, ◌∙◌, ℕ, Bool, true, false, ◌|
 use Rattle.std.specs.Io.KnownBytes.{Appends, prepend_known}
 use Rattle.wire.specs.Calls.{Call, call_of}
 use Rattle.wire.specs.Devices.{AppendsFront}
-use Rattle.wire.specs.Exchanges.{Leads, Runs, Stands}
+use Rattle.wire.specs.Exchanges.{Runs, Stands}
+use Rattle.wire.specs.Answering.{Leads}
 use Rattle.wire.specs.Printed.{Answer, line_of}
-use Rattle.wire.specs.Requests.{requests_of, Reads, BeginsWithRequest, HasNoRequest}
+use Rattle.wire.specs.Requests.{requests_of}
+use Rattle.wire.specs.Reading.{Reads, BeginsWithRequest, HasNoRequest}
 use Rattle.wire.specs.Script.{Scripts}
 use Rattle.wire.specs.declared.request.Request.{Request}
 use Rattle.wire.specs.declared.request.WireFault.{WireFault}

@@ -3,7 +3,7 @@ use Rattle.std.proofs.Common.{◌≡◌, sym, ap, subst}
 use Rattle.reference.specs.Alike.{Alike}
 use Rattle.reference.specs.World.{World}
 use Rattle.reference.proofs.AlikeLemmas.{world_itself}
-use Rattle.wire.specs.Calls.{Call, declare, register, append, heartbeat, drain, take_rows, peek_rows, drop_query, forget, show_plan, show_status}
+use Rattle.wire.specs.Calls.{Call, declare, register, append, heartbeat, drain, take_rows, drop_query, forget, look}
 use Rattle.wire.specs.Printed.{Answer}
 use Rattle.wire.specs.Script.{LeadsAlike, LeadsTo}
 
@@ -21,8 +21,6 @@ leads_alike (append stream rows) defined answer new e = goes_there defined answe
 leads_alike (heartbeat stream at) defined answer new e = goes_there defined answer new e
 leads_alike drain defined answer new l = l
 leads_alike (take_rows query limit) defined answer new e = goes_there defined answer new e
-leads_alike (peek_rows query limit) defined answer new e = goes_there defined answer new e
 leads_alike (drop_query query) defined answer new e = goes_there defined answer new e
 leads_alike forget defined answer new l = l
-leads_alike (show_plan query) defined answer new e = goes_there defined answer new e
-leads_alike show_status defined answer new e = goes_there defined answer new e
+leads_alike (look asked) defined answer new e = goes_there defined answer new e

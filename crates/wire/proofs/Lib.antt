@@ -13,3 +13,4 @@ pub mod Turns
 pub mod Numerals
 pub mod UsualLines
 pub mod Scanning
+pub mod Looking

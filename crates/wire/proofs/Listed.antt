@@ -2,7 +2,8 @@
 use Rattle.std.proofs.Common.{◌≡◌, ◌<◌, ◌+◌, ℕ, zero, suc, ℤ, List, [], ◌∷◌, ◌++◌, Option, Some, None, length, take, codes, refl, ap, sym, ◌∙◌, append_assoc, add-one, arith}
 use Rattle.std.specs.Prelude.{slice_get}
 use Rattle.values.specs.Row.{Row}
-use Rattle.wire.specs.Printed.{after_commas, comma_before, row_text, rows_text}
+use Rattle.wire.specs.Printed.{after_commas, row_text, rows_text}
+use Rattle.wire.specs.Commas.{comma_before}
 use Rattle.wire.proofs.Sinks.{append_nothing}
 
 some_same : {A : Type 0} (x y : A) → Some x ≡ Some y → x ≡ y

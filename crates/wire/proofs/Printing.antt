@@ -2,8 +2,8 @@
 use Rattle.std.proofs.Common.{◌≡◌, ℕ, Bool, true, false, List, [], ◌++◌, Option, Result, Ok, Err, refl, ap, sym, ◌∙◌, subst, append_assoc}
 use Rattle.std.specs.Result.{is_ok}
 use Rattle.std.specs.Io.KnownBytes.{Appends}
-use Rattle.wire.specs.Devices.{AppendsFront, Rises, Puts}
-use Rattle.wire.specs.Paged.{Stands, Wrote, Writes}
+use Rattle.wire.specs.Devices.{AppendsFront, Rises}
+use Rattle.wire.specs.Paged.{Stands, Wrote, Writes, Puts}
 use Rattle.wire.specs.declared.page.Page.{Page}
 use Rattle.wire.proofs.Sinks.{Appends-both, Appends-nothing, append_nothing}
 

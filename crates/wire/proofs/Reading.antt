@@ -8,8 +8,9 @@ use Rattle.std.specs.Str.{IsUtf8, is_utf8}
 use Rattle.std.proofs.lemmas.Str.{IsUtf8-from_is_utf8, is_utf8-from_IsUtf8}
 use Rattle.serde_json.specs.Data.{Data}
 use Rattle.serde_json.specs.Read.{read}
-use Rattle.wire.specs.Lines.{lines_of, longest_line, Keeps, BeginsWithLine}
-use Rattle.wire.specs.Requests.{is_blank_byte, json_of, call_in, asked_in, request_in, ReadsLine, SameRequests, BeginsWithRequest, HasNoRequest}
+use Rattle.wire.specs.Lines.{lines_of, longest_line}
+use Rattle.wire.specs.Requests.{is_blank_byte, json_of, call_in, asked_in, request_in}
+use Rattle.wire.specs.Reading.{ReadsLine, SameRequests, BeginsWithRequest, HasNoRequest, Keeps, BeginsWithLine}
 use Rattle.wire.specs.Asked.{asked}
 use Rattle.wire.specs.Calls.{Call, call_of}
 use Rattle.wire.specs.declared.request.Request.{Request}

@@ -3,13 +3,17 @@ use Rattle.std.proofs.Common.{◌≡◌, ℕ, Bool, true, false, List, [], ◌�
 use Rattle.std.specs.Io.KnownBytes.{Appends, prepend_known}
 use Rattle.wire.specs.Devices.{AppendsFront}
 use Rattle.wire.specs.Calls.{Call, call_of}
-use Rattle.wire.specs.Printed.{Answer, done, rows, operators, status, refused, unread, line_of}
-use Rattle.wire.specs.Requests.{requests_of, Reads, BeginsWithRequest, HasNoRequest}
+use Rattle.wire.specs.Printed.{Answer, done, rows, seen, refused, unread, line_of}
+use Rattle.wire.specs.Requests.{requests_of}
+use Rattle.wire.specs.Reading.{Reads, BeginsWithRequest, HasNoRequest}
 use Rattle.reference.specs.Alike.{Alike}
 use Rattle.reference.specs.World.{World}
 use Rattle.reference.proofs.AlikeLemmas.{world_itself}
 use Rattle.laws_forgetting.proofs.EquivalenceLemmas.{worlds_joined}
-use Rattle.wire.specs.Script.{replies, script, Says, Begins, BeginsScarce, Scripts, AnswersCall, LeadsAlike, Replies, Runs, Stands, TellsScarcity, RestsOn, answered, served, is_scarce_answer, is_scarce_reply}
+use Rattle.wire.specs.Script.{replies, script, Says, Begins, BeginsScarce, Scripts, AnswersCall}
+use Rattle.wire.specs.Script.{LeadsAlike, Runs, Stands, TellsScarcity, RestsOn, answered, served}
+use Rattle.wire.specs.Script.{is_scarce_answer, is_scarce_reply}
+use Rattle.wire.specs.Answering.{Replies}
 use Rattle.wire.specs.declared.request.Request.{Request}
 use Rattle.wire.specs.declared.request.WireFault.{WireFault}
 use Rattle.wire.specs.declared.request.WireFault.TheVariants.{NotJson, BadRequest, LineTooLong, OutOfMemory}
@@ -23,8 +27,7 @@ use Rattle.wire.proofs.Sinks.{append_nothing}
 pub plenty_answered : (call : Call) (answer : Answer) → is_scarce_reply (Ok call) answer ≡ false → is_scarce_answer call answer ≡ false
 plenty_answered call done plenty = plenty
 plenty_answered call (rows taken) plenty = plenty
-plenty_answered call (operators found) plenty = plenty
-plenty_answered call (status found) plenty = plenty
+plenty_answered call (seen found) plenty = plenty
 plenty_answered call (refused fault) plenty = plenty
 plenty_answered call (unread NotJson) plenty = plenty
 plenty_answered call (unread BadRequest) plenty = plenty

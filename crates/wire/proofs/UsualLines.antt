@@ -21,7 +21,8 @@ use Rattle.serde_json.specs.Data as value
 use Rattle.serde_json.specs.Find.{as_i64, of_integer}
 use Rattle.serde_json.specs.Read.{number_of, of_json, of_items, max_depth, read}
 use Rattle.serde_json.proofs.Numbers.{number_of-decimal, number_of-negative}
-use Rattle.wire.specs.Calls.{NewRow, Call, append, heartbeat, take_rows, peek_rows, drain}
+use Rattle.reference.specs.Looks.{peek_rows}
+use Rattle.wire.specs.Calls.{NewRow, Call, append, heartbeat, take_rows, look, drain}
 use Rattle.wire.specs.Asked.{each, value_of, row_in, asked, asked_by, append_in, heartbeat_in, take_in, peek_in}
 use Rattle.wire.specs.Printed.{value_text, after_commas, row_text, rows_text}
 use Rattle.wire.specs.Requests.{json_of, call_in}
@@ -358,17 +359,17 @@ print_peek name limit plain =
 of_peek : (name : List ℕ) (limit : ℤ) → IsShort limit → of_json (peek_json name limit) ≡ Some (peek_data name limit)
 of_peek name limit short = rw (number_of_short limit short) refl
 
-asked_peek : (name : List ℕ) (limit : ℤ) → IsShort limit → asked (peek_data name limit) ≡ Some (peek_rows name limit)
+asked_peek : (name : List ℕ) (limit : ℤ) → IsShort limit → asked (peek_data name limit) ≡ Some (look (peek_rows name limit))
 unfolding asked asked_by peek_in
-asked_peek name limit short = ap (option_map (peek_rows name)) (integer_short limit short)
+asked_peek name limit short = ap (option_map (λ z. look (peek_rows name z))) (integer_short limit short)
 
 pub peek_is_read : (line name : List ℕ) (limit : ℤ) → line ≡ peek_line name limit → IsUtf8 name → AllByRecursion IsPlain name → IsShort limit
-    → call_in (json_of line) ≡ Ok (peek_rows name limit)
+    → call_in (json_of line) ≡ Ok (look (peek_rows name limit))
 peek_is_read line name limit is known plain short =
     let found = read_printed (peek_line name limit) (peek_json name limit) (peek_data name limit) (print_peek name limit (escape_plain name plain))
     (tt, (tt, (number_short limit short, tt))) (omega arith) (of_peek name limit short) in
     let text = utf8_named (codes "{\"op\":\"peek\",\"query\":\"") name (codes "\",\"limit\":") limit refl known refl short in
-    call_is_read line (peek_line name limit) (peek_data name limit) (peek_rows name limit) is text found (asked_peek name limit short)
+    call_is_read line (peek_line name limit) (peek_data name limit) (look (peek_rows name limit)) is text found (asked_peek name limit short)
 
 -- ---- drains
 

@@ -1,11 +1,13 @@
+-- TO BELIEVE: the theorem rests on these definitions, and no proof can check them.
 -- Which call a JSON value asks for, and none where it asks for none.
 use Rattle.std.specs.Prelude.{ℕ, ℤ, List, [], ◌∷◌, Option, Some, None, option_map, option_and_then}
 use Rattle.std.specs.Prelude.{codes, if◌then◌else◌, bytes_eq}
 use Rattle.serde_json.specs.Data.{Data, null, boolean, number, string, array, object, Items}
 use Rattle.serde_json.specs.Data.{no_items, item}
 use Rattle.serde_json.specs.Find.{get, as_str, as_number, as_array, as_i64}
+use Rattle.reference.specs.Looks.{peek_rows, show_plan, show_status}
 use Rattle.wire.specs.Calls.{NewRow, Call, declare, register, append, heartbeat, drain, take_rows}
-use Rattle.wire.specs.Calls.{peek_rows, drop_query, forget, show_plan, show_status}
+use Rattle.wire.specs.Calls.{drop_query, forget, look}
 
 -- ---- the kinds of value
 
@@ -88,14 +90,14 @@ take_in d = option_and_then (λ query. option_map (λ limit. take_rows query lim
     (integer_at (codes "limit") d)) (text_at (codes "query") d)
 
 unfoldable pub peek_in : Data → Option Call
-peek_in d = option_and_then (λ query. option_map (λ limit. peek_rows query limit)
+peek_in d = option_and_then (λ query. option_map (λ limit. look (peek_rows query limit))
     (integer_at (codes "limit") d)) (text_at (codes "query") d)
 
 unfoldable pub drop_query_in : Data → Option Call
 drop_query_in d = option_map drop_query (text_at (codes "query") d)
 
 unfoldable pub plan_in : Data → Option Call
-plan_in d = option_map show_plan (text_at (codes "query") d)
+plan_in d = option_map (λ query. look (show_plan query)) (text_at (codes "query") d)
 
 unfoldable pub asked_by : List ℕ → Data → Option Call
 asked_by op d =
@@ -109,7 +111,7 @@ asked_by op d =
     if bytes_eq op (codes "forget") then Some forget else (
     if bytes_eq op (codes "plan") then plan_in d else (
     if bytes_eq op (codes "peek") then peek_in d else (
-    if bytes_eq op (codes "status") then Some show_status else None))))))))))
+    if bytes_eq op (codes "status") then Some (look show_status) else None))))))))))
 
 -- the call, or none where the value is no request
 unfoldable pub asked : Data → Option Call

@@ -6,12 +6,13 @@ use Rattle.names.specs.declared.fault.ResolveFault.TheVariants.{NotGrouped}
 use Rattle.plan.specs.declared.fault.PlanFault.TheVariants.{Unresolved}
 use Rattle.plan.specs.declared.node.NodeKind.TheVariants.{Window, ToStream}
 use Rattle.reference.specs.FaultTexts.{fault_text}
+use Rattle.reference.specs.Looks.{operators}
 use Rattle.reference.specs.declared.fault.Fault.TheVariants.{Query, Late}
 use Rattle.reference.specs.declared.fault.QueryFault.TheVariants.{Unexpected, Planned}
 use Rattle.wire.specs.Lines.{lines_of}
 use Rattle.wire.specs.Requests.{is_blank}
-use Rattle.wire.specs.Printed.{rows, operators, refused, line_of, rows_text, row_text, value_text}
-use Rattle.wire.specs.Printed.{operators_text, operator_text}
+use Rattle.wire.specs.Printed.{rows, seen, refused, line_of, rows_text, row_text, value_text}
+use Rattle.wire.specs.Printed.{operators_text, operator_text, seen_line}
 
 -- a text of two lines and the beginning of a third, the second of which is blank
 lines : lines_of (codes "[]\n\t\r\n{") ≡ codes "[]" ∷ codes "\t\r" ∷ codes "{" ∷ []
@@ -30,9 +31,9 @@ none : line_of (rows []) ≡ codes "{\"ok\":true,\"rows\":[]}\n"
 unfolding line_of rows_text
 none = refl
 
-plan : line_of (operators ((Window, fraction 250000 1) ∷ (ToStream, fraction 0 1) ∷ []))
+plan : line_of (seen (operators ((Window, fraction 250000 1) ∷ (ToStream, fraction 0 1) ∷ [])))
     ≡ codes "{\"ok\":true,\"operators\":[[\"Window\",\"250000/1\"],[\"ToStream\",\"0/1\"]]}\n"
-unfolding line_of operators_text operator_text digits
+unfolding line_of seen_line operators_text operator_text digits
 plan = refl
 
 late : line_of (refused Late) ≡ codes "{\"error\":\"E10 Late\"}\n"

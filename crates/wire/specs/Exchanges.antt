@@ -1,3 +1,4 @@
+-- TO BELIEVE: the theorem rests on these definitions, and no proof can check them.
 -- Requests and their answers, one after the other, over a state that they change.
 use Rattle.std.specs.Prelude.{◌≡◌, ℕ, Bool, false, ◌||◌, List, [], ◌∷◌, ◌++◌, Result}
 use Rattle.wire.specs.Calls.{Call}
@@ -26,9 +27,3 @@ Stands R notes first requests written last =
     (carried : List (Result Call WireFault)) × (rest : List (Result Call WireFault))
     × (more : List ℕ) × (noted : Bool)
     × (requests ≡ carried ++ rest) × Runs R notes first carried (written ++ more) noted last
-
--- Some requests lead from the one state to the other.
-abbrev pub Leads : {T : Type 0} → (T → Result Call WireFault → Answer → T → Type 0)
-    → (Result Call WireFault → Answer → Bool) → T → T → Type 0
-Leads R notes first last = (requests : List (Result Call WireFault)) × (written : List ℕ)
-    × (noted : Bool) × Runs R notes first requests written noted last

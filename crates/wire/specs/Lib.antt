@@ -4,9 +4,12 @@ pub mod Devices
 pub mod Lines
 pub mod Held
 pub mod Requests
+pub mod Reading
 pub mod Printed
+pub mod Commas
 pub mod Usual
 pub mod Paged
 pub mod Exchanges
+pub mod Answering
 pub mod Script
 pub mod Examples

@@ -1,5 +1,5 @@
 -- A text on its way to a sink, of which a page holds the end.
-use Rattle.std.specs.Prelude.{◌≡◌, ℕ, Bool, true, false, List, ◌++◌, Option}
+use Rattle.std.specs.Prelude.{◌≡◌, ℕ, Bool, true, false, List, ◌++◌, Option, Result, MatchResult}
 use Rattle.std.specs.Io.KnownBytes.{Appends}
 use Rattle.wire.specs.Devices.{AppendsFront, Rises}
 use Rattle.wire.specs.declared.page.Page.{Page}
@@ -20,3 +20,10 @@ pub record Writes (old : Option (List ℕ)) (fails : ℕ) (page : Page) (new : O
     (fails' : ℕ) (page' : Page) (bytes : List ℕ) : Type 0 where
   pub along : (start : Option (List ℕ)) (before : ℕ) (text : List ℕ)
       → Wrote start before old fails page text → Wrote start before new fails' page' (text ++ bytes)
+
+-- `Ok`: the sink took these bytes and did not fail. `Err`: it failed, and took a front of them.
+abbrev pub Puts : {T E : Type 0} → Option (List ℕ) → Option (List ℕ) → ℕ → ℕ → Result T E
+    → List ℕ → Type 0
+Puts old new before after result bytes =
+    MatchResult result (λ _. Appends old new bytes × (after ≡ before))
+    (λ _. AppendsFront old new bytes × Rises before after)

@@ -1,6 +1,7 @@
+-- TO BELIEVE: the theorem rests on these definitions, and no proof can check them.
 -- The lines of replies.
-use Rattle.std.specs.Prelude.{ℕ, zero, suc, ℤ, Bool, true, false, List, [], ◌∷◌, ◌++◌}
-use Rattle.std.specs.Prelude.{Option, Some, None, codes, decimal, flat_map}
+use Rattle.std.specs.Prelude.{ℕ, ℤ, Bool, true, false, List, [], ◌∷◌, ◌++◌, Option, Some, None}
+use Rattle.std.specs.Prelude.{codes, decimal, flat_map}
 use Rattle.std.specs.Arc.{arc_value}
 use Rattle.std.specs.Fmt.{signed_decimal}
 use Rattle.values.specs.Row.{Row}
@@ -9,25 +10,23 @@ use Rattle.envelope.specs.LowestTerms.{shown}
 use Rattle.plan.specs.Kinds.{kind_name}
 use Rattle.plan.specs.declared.node.NodeKind.{NodeKind}
 use Rattle.reference.specs.FaultTexts.{fault_text}
+use Rattle.reference.specs.Looks.{Seen, answers, operators, seen_of, status}
 use Rattle.reference.specs.Status.{QueryStatus, StreamStatus}
 use Rattle.reference.specs.Status as defined
-use Rattle.reference.specs.StatusViews.{status_in}
 use Rattle.reference.specs.declared.fault.Fault.{Fault}
 use Rattle.wire.specs.declared.request.WireFault.{WireFault}
 use Rattle.wire.specs.declared.request.WireFault.TheVariants as in_line
 use Rattle.wire.specs.declared.reply.Reply.{Reply}
-use Rattle.wire.specs.declared.reply.Reply.TheVariants.{Done, Rows, Shared, Operators, Status}
-use Rattle.wire.specs.declared.reply.Reply.TheVariants.{Refused, Unread}
+use Rattle.wire.specs.declared.reply.Reply.TheVariants.{Done, Rows, Shared, Refused, Unread}
+use Rattle.wire.specs.declared.reply.Reply.TheVariants as in_reply
 
 -- what a request is answered
 pub data Answer : Type 0 where
   done : Answer
   -- answers of a query, each with its instant
   rows : List (ℤ × Row) → Answer
-  -- what each operator of a query does, and its slope
-  operators : List (NodeKind × Fraction) → Answer
-  -- how far each query and each stream is
-  status : defined.Status → Answer
+  -- what a look saw
+  seen : Seen → Answer
   -- the engine refused the call
   refused : Fault → Answer
   -- the line is no request
@@ -37,8 +36,7 @@ abbrev pub answer_of : Reply → Answer
 answer_of Done = done
 answer_of (Rows taken) = rows taken
 answer_of (Shared taken) = rows (arc_value taken)
-answer_of (Operators found) = operators found.items
-answer_of (Status found) = status (status_in found)
+answer_of (in_reply.Seen found) = seen (seen_of found)
 answer_of (Refused fault) = refused fault
 answer_of (Unread fault) = unread fault
 
@@ -49,11 +47,6 @@ value_text (Some z) = signed_decimal z
 -- each text after a comma
 abbrev pub after_commas : {A : Type 0} → (A → List ℕ) → List A → List ℕ
 after_commas f xs = flat_map (λ x. codes "," ++ f x) xs
-
--- a comma, before all but the first
-abbrev pub comma_before : ℕ → List ℕ
-comma_before zero = []
-comma_before (suc number) = codes ","
 
 -- the instant, then the values
 unfoldable pub row_text : ℤ × Row → List ℕ
@@ -105,6 +98,21 @@ unfoldable pub status_text : defined.Status → List ℕ
 status_text s = codes "{\"ok\":true,\"queries\":[" ++ with_commas query_status_text s.queries
     ++ codes "],\"streams\":[" ++ with_commas stream_status_text s.streams ++ codes "]}\n"
 
+-- the line of answers that a take handed out, or that a peek shows
+abbrev pub rows_line : List (ℤ × Row) → List ℕ
+rows_line found = codes "{\"ok\":true,\"rows\":[" ++ rows_text found ++ codes "]}\n"
+
+-- the line of a query's operators
+abbrev pub operators_line : List (NodeKind × Fraction) → List ℕ
+operators_line found = codes "{\"ok\":true,\"operators\":[" ++ operators_text found
+    ++ codes "]}\n"
+
+-- the line of what a look saw
+unfoldable pub seen_line : Seen → List ℕ
+seen_line (answers found) = rows_line found
+seen_line (operators found) = operators_line found
+seen_line (status found) = status_text found
+
 abbrev pub wire_fault_text : WireFault → List ℕ
 wire_fault_text in_line.NotJson = codes "N1 NotJson"
 wire_fault_text in_line.BadRequest = codes "N2 BadRequest"
@@ -117,9 +125,7 @@ error_line text = codes "{\"error\":\"" ++ text ++ codes "\"}\n"
 -- the line of a reply, with its line feed
 unfoldable pub line_of : Answer → List ℕ
 line_of done = codes "{\"ok\":true}\n"
-line_of (rows taken) = codes "{\"ok\":true,\"rows\":[" ++ rows_text taken ++ codes "]}\n"
-line_of (operators found) = codes "{\"ok\":true,\"operators\":[" ++ operators_text found
-    ++ codes "]}\n"
-line_of (status found) = status_text found
+line_of (rows taken) = rows_line taken
+line_of (seen found) = seen_line found
 line_of (refused fault) = error_line (fault_text fault)
 line_of (unread fault) = error_line (wire_fault_text fault)

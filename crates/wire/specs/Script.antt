@@ -1,20 +1,20 @@
+-- TO BELIEVE: the theorem rests on these definitions, and no proof can check them.
 -- The text that a script of requests is answered.
 use Rattle.std.specs.Prelude.{◌≡◌, ℕ, ℤ, Bool, true, false, List, [], ◌∷◌, ◌++◌, Option, Some, None}
 use Rattle.std.specs.Prelude.{Result, Ok, Err, ◌⊎◌, ⊤}
 use Rattle.values.specs.Row.{Row}
-use Rattle.envelope.specs.Fraction.{Fraction}
-use Rattle.plan.specs.declared.node.NodeKind.{NodeKind}
 use Rattle.reference.specs.Alike.{Alike}
+use Rattle.reference.specs.Looks.{Seen, look_at}
+use Rattle.reference.specs.Looks as looks
 use Rattle.reference.specs.World.{World, Step, MayLackMemory, StopsEarly, stream_named, query_named}
 use Rattle.reference.specs.World.{declare_step, register_step, append_step, heartbeat_step}
-use Rattle.reference.specs.World.{drain_step, take_step, peek_at, drop_step, slopes_at}
-use Rattle.reference.specs.Status.{status_of}
+use Rattle.reference.specs.World.{drain_step, take_step, drop_step}
 use Rattle.reference.specs.declared.fault.Fault.{Fault}
 use Rattle.reference.specs.declared.fault.Fault.TheVariants as in_engine
 use Rattle.reference.specs.declared.fault.Fault.TheVariants.{TooManyLeases}
 use Rattle.wire.specs.Calls.{Call, declare, register, append, heartbeat, drain, take_rows}
-use Rattle.wire.specs.Calls.{peek_rows, drop_query, forget, show_plan, show_status}
-use Rattle.wire.specs.Printed.{Answer, done, rows, operators, status, refused, unread, line_of}
+use Rattle.wire.specs.Calls.{drop_query, forget, look}
+use Rattle.wire.specs.Printed.{Answer, done, rows, seen, refused, unread, line_of}
 use Rattle.wire.specs.Requests.{requests_of}
 use Rattle.wire.specs.declared.request.WireFault.{WireFault}
 use Rattle.wire.specs.declared.request.WireFault.TheVariants.{LineTooLong, OutOfMemory}
@@ -27,9 +27,9 @@ abbrev pub rows_of : Result (List (ℤ × Row)) Fault → Answer
 rows_of (Ok taken) = rows taken
 rows_of (Err f) = refused f
 
-abbrev pub operators_or : Result (List (NodeKind × Fraction)) Fault → Answer
-operators_or (Ok found) = operators found
-operators_or (Err f) = refused f
+abbrev pub seen_or : Result Seen Fault → Answer
+seen_or (Ok found) = seen found
+seen_or (Err f) = refused f
 
 abbrev pub done_step : {A : Type 0} → Step A → Answer × World
 done_step step = (done_of step.0, step.1)
@@ -56,14 +56,10 @@ answered w (heartbeat stream at) =
 answered w drain = done_step (drain_step w 1)
 answered w (take_rows query limit) =
     if_named w in_engine.UnknownQuery (λ n. rows_step (take_step w n limit)) (query_named w query)
-answered w (peek_rows query limit) =
-    if_named w in_engine.UnknownQuery (λ n. (rows_of (peek_at w n limit), w)) (query_named w query)
-answered w (show_plan query) =
-    if_named w in_engine.UnknownQuery (λ n. (operators_or (slopes_at w n), w)) (query_named w query)
 answered w (drop_query query) =
     if_named w in_engine.UnknownQuery (λ n. done_step (drop_step w n)) (query_named w query)
 answered w forget = (done, w)
-answered w show_status = (status (status_of w), w)
+answered w (look asked) = (seen_or (look_at w asked), w)
 
 -- what a request is answered, and the world after it; a line that is no request changes nothing
 abbrev pub served : World → Result Call WireFault → Answer × World
@@ -129,21 +125,14 @@ AnswersCall old call answer new =
     (is_scarce_answer call answer ≡ false → LeadsTo call (answered old call) answer new)
     × (is_scarce_answer call answer ≡ true → LeavesOff old call new)
 
--- An engine has to be whole for its drains, its takes, its peeks and
--- its status to be answered so, and to give up rows unseen.
+-- An engine has to be whole for its drains, its takes and most of
+-- its looks to be answered so, and to give up rows unseen.
 abbrev pub NeedsWhole : Call → Type 0
 NeedsWhole drain = ⊤
 NeedsWhole (take_rows query limit) = ⊤
-NeedsWhole (peek_rows query limit) = ⊤
-NeedsWhole show_status = ⊤
+NeedsWhole (look asked) = looks.NeedsWhole asked
 NeedsWhole forget = ⊤
 NeedsWhole call = ⊥
-
--- The reply is the defined one, and no later request tells the world after
--- it from the defined one, unless the reply says that something was scarce.
-abbrev pub Replies : World → Result Call WireFault → Answer → World → Type 0
-Replies old request answer new =
-    is_scarce_reply request answer ≡ false → LeadsAlike (served old request) answer new
 
 -- The text begins with a reply to this request that says that memory, or
 -- numbers for a drain's turns, were scarce; numbers only where there are none.

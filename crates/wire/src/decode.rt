@@ -12,7 +12,7 @@ ghost use Rattle.wire.specs.Asked.{declare_in, register_in, append_in, heartbeat
 ghost use Rattle.wire.specs.Asked.{peek_in, drop_query_in, plan_in, asked_by, asked};
 
 use crate::request::Request;
-use reference::{Chart, NewRows};
+use reference::{Chart, Look, NewRows};
 use serde_json::Value;
 use std::alloc::{AllocError, Global};
 
@@ -278,7 +278,7 @@ fn peek_in(alloc: Global, value: &Value) -> Result<Option<Request>, AllocError>
         return Ok(None);
     };
     let query = String::from_str(alloc, query)?;
-    Ok(Some(Request::Peek { query, limit }))
+    Ok(Some(Request::Look(Look::Peek { query, limit })))
 }
 
 #[tactic(auto, unfolding(crate::specs::Asked::drop_query_in))]
@@ -300,7 +300,7 @@ fn plan_in(alloc: Global, value: &Value) -> Result<Option<Request>, AllocError>
         return Ok(None);
     };
     let query = String::from_str(alloc, query)?;
-    Ok(Some(Request::Plan { query }))
+    Ok(Some(Request::Look(Look::Plan { query })))
 }
 
 #[tactic(auto, unfolding(crate::specs::Asked::asked_by))]
@@ -338,7 +338,7 @@ fn asked_by(alloc: Global, op: &str, value: &Value) -> Result<Option<Request>, A
         return peek_in(alloc, value);
     }
     if op == "status" {
-        return Ok(Some(Request::Status));
+        return Ok(Some(Request::Look(Look::Status)));
     }
     Ok(None)
 }

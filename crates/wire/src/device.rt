@@ -2,7 +2,8 @@
 ghost use Rattle.std.specs.Prelude.{◌≡◌, ◌<◌, ◌≤◌, [], ◌-◌, ◌^◌, ℕ, List, Option, Some};
 ghost use Rattle.std.specs.Prelude.{IfOk, OnOk, OnErr, length, take, if◌then◌else◌};
 ghost use Rattle.std.specs.Io.KnownBytes.{Appends, Consumes, IsAtEnd, Keeps};
-ghost use Rattle.wire.specs.Devices.{Rises, Puts};
+ghost use Rattle.wire.specs.Devices.{Rises};
+ghost use Rattle.wire.specs.Paged.{Puts};
 
 use std::alloc::Global;
 use std::io::{ErrorKind, Read, Write};

@@ -3,11 +3,13 @@ ghost use Rattle.std.specs.Prelude.{◌≡◌, ◌≢◌, ◌<◌, [], ◌||◌,
 ghost use Rattle.std.specs.Prelude.{IfOk, IfErr, IfSome, MatchOption, None, true, false};
 ghost use Rattle.wire.specs.Calls.{Call};
 ghost use Rattle.wire.specs.Devices.{Rises};
-ghost use Rattle.wire.specs.Exchanges.{Leads, Runs, Stands};
+ghost use Rattle.wire.specs.Exchanges.{Runs, Stands};
+ghost use Rattle.wire.specs.Answering.{Leads};
 ghost use Rattle.wire.specs.Held.{ahead, work};
 ghost use Rattle.wire.specs.Paged.{Writes};
 ghost use Rattle.wire.specs.Printed.{Answer, answer_of, line_of};
-ghost use Rattle.wire.specs.Requests.{BeginsWithRequest, HasNoRequest, Reads, requests_of};
+ghost use Rattle.wire.specs.Requests.{requests_of};
+ghost use Rattle.wire.specs.Reading.{BeginsWithRequest, HasNoRequest, Reads};
 ghost use Rattle.wire.specs.Script.{Scripts};
 ghost use Rattle.wire.specs.declared.request.WireFault.{WireFault};
 

@@ -30,6 +30,6 @@ pub use fault::ScriptFault;
 pub use laws::alike_worlds_have_one_script;
 pub use lines::Lines;
 pub use read::{next_request, read_request};
-pub use reply::{Reply, done, write_reply};
+pub use reply::{Reply, done, seen, write_reply};
 pub use request::{Request, WireFault};
 pub use script::{answer, run_script};

@@ -5,7 +5,8 @@ ghost use Rattle.std.specs.Prelude.{length, take, slice_index, vec_len};
 ghost use Rattle.std.specs.Prelude.{vec_capacity, Option};
 ghost use Rattle.std.specs.Io.KnownBytes.{IsAtEnd, Consumes, Keeps as Same};
 ghost use Rattle.wire.specs.Devices.{Rises};
-ghost use Rattle.wire.specs.Lines.{EachOther, NoFeed, Keeps, longest_line, BeginsWithLine};
+ghost use Rattle.wire.specs.Lines.{longest_line};
+ghost use Rattle.wire.specs.Reading.{EachOther, NoFeed, Keeps, BeginsWithLine};
 
 use crate::device::{DeviceFailed, Source};
 use crate::read::is_blank;
@@ -85,10 +86,7 @@ fn keep(line: &mut Vec<u8>, fits: bool, piece: &[u8]) -> bool
     if !fits || piece.len() > LONGEST_LINE - line.len().min(LONGEST_LINE) {
         return false;
     }
-    if line.extend_from_slice(piece).is_err() {
-        unreachable!();
-    }
-    true
+    line.extend_from_slice(piece).is_ok()
 }
 
 #[derive(Drop)]

@@ -3,10 +3,10 @@ ghost use Rattle.std.specs.Prelude.{◌≡◌, ◌<◌, ◌≤◌, IfOk, IfErr, 
 ghost use Rattle.std.specs.Prelude.{List, ℕ, Option};
 ghost use Rattle.std.specs.List.{list_all};
 ghost use Rattle.wire.specs.Devices.{Rises};
-ghost use Rattle.wire.specs.Lines.{Keeps};
 ghost use Rattle.wire.specs.Held.{ahead, work, HoldsNothing};
-ghost use Rattle.wire.specs.Requests.{is_blank_byte, asked_in, call_in, json_of, Reads};
-ghost use Rattle.wire.specs.Requests.{BeginsWithRequest, HasNoRequest, SameRequests, ReadsLine};
+ghost use Rattle.wire.specs.Requests.{is_blank_byte, asked_in, call_in, json_of};
+ghost use Rattle.wire.specs.Reading.{Reads, BeginsWithRequest, HasNoRequest, SameRequests};
+ghost use Rattle.wire.specs.Reading.{Keeps, ReadsLine};
 ghost use Rattle.wire.specs.Requests.{request_in};
 
 use crate::decode::request_of;

@@ -3,20 +3,20 @@ ghost use Rattle.std.specs.Prelude.{◌≡◌, ◌++◌, true, codes, IfErr};
 ghost use Rattle.envelope.specs.LowestTerms.{shown};
 ghost use Rattle.plan.specs.Kinds.{kind_name};
 ghost use Rattle.reference.specs.FaultTexts.{place_text};
-ghost use Rattle.wire.specs.Devices.{Puts};
-ghost use Rattle.wire.specs.Paged.{Writes};
-ghost use Rattle.reference.specs.StatusViews.{status_in};
-ghost use Rattle.wire.specs.Printed.{value_text, after_commas, comma_before, row_text, rows_text};
-ghost use Rattle.wire.specs.Printed.{rows, operator_text, operators_text, wire_fault_text, line_of};
-ghost use Rattle.wire.specs.Printed.{answer_of, error_line};
-ghost use Rattle.wire.specs.Script.{done_of};
+ghost use Rattle.wire.specs.Paged.{Puts, Writes};
+ghost use Rattle.reference.specs.Looks.{seen_in, seen_of};
+ghost use Rattle.wire.specs.Printed.{value_text, after_commas, row_text, rows_text};
+ghost use Rattle.wire.specs.Commas.{comma_before};
+ghost use Rattle.wire.specs.Printed.{operator_text, operators_text, wire_fault_text, line_of};
+ghost use Rattle.wire.specs.Printed.{answer_of, error_line, operators_line, rows_line, seen_line};
+ghost use Rattle.wire.specs.Script.{done_of, seen_or};
 
 use crate::device::Sink;
 use crate::fault::ScriptFault;
 use crate::page::Page;
 use crate::request::WireFault;
 use crate::status::add_status;
-use reference::{AnswerRows, Fault, NodeKind, Slope, Status};
+use reference::{AnswerRows, Fault, NodeKind, Seen, Slope};
 use std::ops::Deref;
 use std::sync::Arc;
 use values::Value;
@@ -30,10 +30,8 @@ pub enum Reply {
     Rows(AnswerRows),
     /// Holds answers that someone else keeps too, as a hub's history does.
     Shared(Arc<AnswerRows>),
-    /// Says what each operator of a query does, and its slope.
-    Operators(Vec<(NodeKind, Slope)>),
-    /// Says how far each stream and each undropped query is.
-    Status(Status),
+    /// Holds what a look saw.
+    Seen(Seen),
     /// Says that the engine refused the call.
     Refused(Fault),
     /// Says that the line is no request.
@@ -95,11 +93,11 @@ fn add_rows<K: Sink>(sink: &mut K, page: &mut Page, rows: &AnswerRows)
     }
 }
 
-// Adds the line of a take's answers.
-#[tactic(auto, using(crate::proofs::Printing::writes_both), unfolding(crate::specs::Printed::line_of))]
+// Adds the line of answers that a take or a peek returned.
+#[tactic(auto, using(crate::proofs::Printing::writes_both))]
 fn add_taken<K: Sink>(sink: &mut K, page: &mut Page, taken: &AnswerRows)
     ensures { Writes (K.taken sink.old) (K.failures sink.old) page.old
-        (K.taken sink.new) (K.failures sink.new) page.new (line_of (rows taken.now)) }
+        (K.taken sink.new) (K.failures sink.new) page.new (rows_line taken.now) }
 {
     page.add(sink, b"{\"ok\":true,\"rows\":[");
     add_rows(sink, page, taken);
@@ -166,6 +164,40 @@ fn add_operators<K: Sink>(sink: &mut K, page: &mut Page, operators: &[(NodeKind,
     }
 }
 
+// Adds the line of a query's operators.
+#[tactic(auto, using(crate::proofs::Printing::writes_both))]
+fn add_plan<K: Sink>(sink: &mut K, page: &mut Page, operators: &[(NodeKind, Slope)])
+    ensures { Writes (K.taken sink.old) (K.failures sink.old) page.old
+        (K.taken sink.new) (K.failures sink.new) page.new (operators_line operators.now) }
+{
+    page.add(sink, b"{\"ok\":true,\"operators\":[");
+    add_operators(sink, page, operators);
+    page.add(sink, b"]}\n");
+}
+
+// Adds the line of what a look saw.
+#[tactic(auto, unfolding(crate::specs::Printed::seen_line))]
+fn add_seen<K: Sink>(sink: &mut K, page: &mut Page, seen: &Seen)
+    ensures { Writes (K.taken sink.old) (K.failures sink.old) page.old
+        (K.taken sink.new) (K.failures sink.new) page.new (seen_line (seen_of seen.now)) }
+{
+    match seen {
+        Seen::Answers(rows) => add_taken(sink, page, rows),
+        Seen::Operators(operators) => add_plan(sink, page, operators),
+        Seen::Status(status) => add_status(sink, page, status),
+    }
+}
+
+/// Returns the reply to a look.
+pub fn seen(answer: Result<Seen, Fault>) -> Reply
+    ensures { answer_of result ≡ seen_or (seen_in answer) }
+{
+    match answer {
+        Ok(seen) => Reply::Seen(seen),
+        Err(refused) => Reply::Refused(refused),
+    }
+}
+
 /// Returns the reply to a call that returns no rows.
 pub fn done<T: Drop>(answer: Result<T, Fault>) -> Reply
     ensures { answer_of result ≡ done_of answer }
@@ -219,12 +251,7 @@ pub(crate) fn add_reply<K: Sink>(sink: &mut K, page: &mut Page, reply: &Reply)
         Reply::Done => page.add(sink, b"{\"ok\":true}\n"),
         Reply::Rows(rows) => add_taken(sink, page, rows),
         Reply::Shared(rows) => add_taken(sink, page, rows.deref()),
-        Reply::Operators(operators) => {
-            page.add(sink, b"{\"ok\":true,\"operators\":[");
-            add_operators(sink, page, operators);
-            page.add(sink, b"]}\n");
-        }
-        Reply::Status(status) => add_status(sink, page, status),
+        Reply::Seen(seen) => add_seen(sink, page, seen),
         Reply::Refused(fault) => add_error(sink, page, fault.name(), fault.place()),
         Reply::Unread(fault) => add_error(sink, page, wire_fault_text(fault), None),
     }

@@ -1,5 +1,5 @@
 //! Says what a request line asks for.
-use reference::{Chart, NewRows};
+use reference::{Chart, Look, NewRows};
 
 /// Says what a request line asks for, with streams and queries by name.
 #[derive(Drop)]
@@ -33,23 +33,14 @@ pub enum Request {
         query: String,
         limit: i64,
     },
-    /// Shows the answers that a take would hand out, and takes none.
-    Peek {
-        query: String,
-        limit: i64,
-    },
     /// Drops a query.
     Drop {
         query: String,
     },
     /// Forgets the rows that no query needs any longer.
     Forget,
-    /// Shows the operators of a query and their slopes.
-    Plan {
-        query: String,
-    },
-    /// Says how far each stream and each undropped query is.
-    Status,
+    /// Looks at something, and changes nothing.
+    Look(Look),
 }
 
 /// Says why a line is no request, or why it could not be read.

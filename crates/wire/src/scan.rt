@@ -12,7 +12,7 @@ ghost use Rattle.wire.specs.Calls.{call_of};
 ghost use Rattle.wire.specs.Usual.{IsShort, ValueIsShort, RowIsShort, IsPlain};
 
 use crate::request::Request;
-use reference::NewRows;
+use reference::{Look, NewRows};
 use std::alloc::{AllocError, Global};
 use std::str::from_utf8;
 
@@ -270,7 +270,7 @@ fn usual_peek(alloc: Global, line: &[u8]) -> Result<Option<Request>, AllocError>
         return Ok(None);
     };
     let query = String::from_str(alloc, query)?;
-    Ok(Some(Request::Peek { query, limit }))
+    Ok(Some(Request::Look(Look::Peek { query, limit })))
 }
 
 fn usual_drain(line: &[u8]) -> Option<Request>

@@ -1,17 +1,20 @@
 //! Runs scripts of requests on an engine.
 ghost use Rattle.std.specs.Prelude.{◌≡◌, ◌≢◌, ◌<◌, [], Result, Ok, IfOk, IfErr};
 ghost use Rattle.std.specs.Prelude.{OnOk, OnErr, IfSome, MatchOption, None, true, false, ◌⊎◌};
+ghost use Rattle.reference.specs.Looks.{look_of};
 ghost use Rattle.reference.specs.World.{IsTurnSize};
 ghost use Rattle.wire.specs.Devices.{Rises};
 ghost use Rattle.wire.specs.Held.{ahead, work};
 ghost use Rattle.wire.specs.Paged.{Writes};
 ghost use Rattle.wire.specs.Calls.{Call, append, heartbeat, drain, take_rows, drop_query, forget};
-ghost use Rattle.wire.specs.Calls.{show_plan, show_status, peek_rows, call_of};
+ghost use Rattle.wire.specs.Calls.{call_of, look};
 ghost use Rattle.wire.specs.Printed.{Answer, answer_of, line_of};
-ghost use Rattle.wire.specs.Requests.{BeginsWithRequest, HasNoRequest, Reads, requests_of};
+ghost use Rattle.wire.specs.Requests.{requests_of};
+ghost use Rattle.wire.specs.Reading.{BeginsWithRequest, HasNoRequest, Reads};
 ghost use Rattle.wire.specs.Script.{answered, is_scarce_answer, is_scarce_reply, script};
 ghost use Rattle.wire.specs.Script.{Says, Begins, Runs, Scripts, Stands, TellsScarcity};
-ghost use Rattle.wire.specs.Script.{AnswersCall, NeedsWhole, RestsOn, Replies};
+ghost use Rattle.wire.specs.Script.{AnswersCall, NeedsWhole, RestsOn};
+ghost use Rattle.wire.specs.Answering.{Replies};
 ghost use Rattle.wire.specs.declared.request.WireFault.{WireFault};
 
 use crate::device::{Sink, Source};
@@ -19,9 +22,9 @@ use crate::exchange::await_request;
 use crate::fault::ScriptFault;
 use crate::lines::Lines;
 use crate::page::Page;
-use crate::reply::{Reply, add_reply, done};
+use crate::reply::{Reply, add_reply, done, seen};
 use crate::request::{Request, WireFault};
-use reference::{Answering, Fault, NewRows};
+use reference::{Answering, Fault, Look, NewRows};
 use std::alloc::Global;
 
 fn append<E: Answering>(engine: &mut E, stream: &str, rows: &NewRows) -> Reply
@@ -95,20 +98,6 @@ fn take<E: Answering>(engine: &mut E, query: &str, limit: i64) -> Reply
     }
 }
 
-fn peek<E: Answering>(engine: &E, query: &str, limit: i64) -> Reply
-    ensures { E.is_whole engine.now
-        → AnswersCall (E.world engine.now) (peek_rows query.now limit) (answer_of result)
-        (E.world engine.now) }
-{
-    let Some(number) = engine.query_named(query) else {
-        return Reply::Refused(Fault::UnknownQuery);
-    };
-    match engine.peek(number, limit) {
-        Ok(rows) => Reply::Rows(rows),
-        Err(fault) => Reply::Refused(fault),
-    }
-}
-
 fn drop_query<E: Answering>(engine: &mut E, query: &str) -> Reply
     ensures answers { AnswersCall (E.world engine.old) (drop_query query.now) (answer_of result)
         (E.world engine.new) }
@@ -121,27 +110,12 @@ fn drop_query<E: Answering>(engine: &mut E, query: &str) -> Reply
     }
 }
 
-fn show_plan<E: Answering>(engine: &E, query: &str) -> Reply
-    ensures { AnswersCall (E.world engine.now) (show_plan query.now) (answer_of result)
+fn show<E: Answering>(engine: &E, asked: &Look) -> Reply
+    ensures { (NeedsWhole (look (look_of asked.now)) → E.is_whole engine.now)
+        → AnswersCall (E.world engine.now) (look (look_of asked.now)) (answer_of result)
         (E.world engine.now) }
 {
-    let Some(number) = engine.query_named(query) else {
-        return Reply::Refused(Fault::UnknownQuery);
-    };
-    match engine.slopes(number) {
-        Ok(operators) => Reply::Operators(operators),
-        Err(fault) => Reply::Refused(fault),
-    }
-}
-
-fn show_status<E: Answering>(engine: &E) -> Reply
-    ensures { E.is_whole engine.now
-        → AnswersCall (E.world engine.now) show_status (answer_of result) (E.world engine.now) }
-{
-    match engine.status() {
-        Ok(status) => Reply::Status(status),
-        Err(fault) => Reply::Refused(fault),
-    }
+    seen(engine.look(asked))
 }
 
 /// Runs a request on an engine. A drain's turns have at most `rows` rows, 1 to 1,024.
@@ -149,8 +123,8 @@ fn show_status<E: Answering>(engine: &E) -> Reply
 /// Answers as the machine does, or says what is scarce. Out of memory replaces only an acceptance
 /// or a fault of a query's text, and never the answer to a drop. Then nothing has changed, except
 /// that a drain may have made some answers wait. Only a drain can run out of numbers for turns:
-/// then the engine has none left. A drain, a take, a peek, a status and a `forget` need an engine
-/// that is whole.
+/// then the engine has none left. A drain, a take, a `forget`, and each look except at a plan need
+/// an engine that is whole.
 ///
 /// Forgets rows that no later answer needs, at a `forget` and, if that pays, after a drain. No
 /// later call can distinguish the world from the machine's.
@@ -181,11 +155,9 @@ pub fn answer<E: Answering>(engine: &mut E, request: &Request, rows: u32) -> Rep
         Request::Heartbeat { stream, at } => heartbeat(engine, stream.as_str(), *at),
         Request::Drain => drain(engine, rows),
         Request::Take { query, limit } => take(engine, query.as_str(), *limit),
-        Request::Peek { query, limit } => peek(engine, query.as_str(), *limit),
         Request::Drop { query } => drop_query(engine, query.as_str()),
         Request::Forget => forget(engine),
-        Request::Plan { query } => show_plan(engine, query.as_str()),
-        Request::Status => show_status(engine),
+        Request::Look(look) => show(engine, look),
     }
 }
 

@@ -1,7 +1,7 @@
 //! Writes how far queries and streams are.
 ghost use Rattle.std.specs.Prelude.{◌++◌, decimal, map};
 ghost use Rattle.std.specs.Fmt.{signed_decimal};
-ghost use Rattle.names.specs.Views.{names_of};
+ghost use Rattle.names.specs.Names.{names_of};
 ghost use Rattle.reference.specs.StatusViews.{query_status_in, status_in, stream_status_in};
 ghost use Rattle.wire.specs.Paged.{Writes};
 ghost use Rattle.wire.specs.Printed.{after_commas, broken_text, name_text, query_status_text};

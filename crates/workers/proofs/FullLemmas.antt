@@ -5,7 +5,8 @@ use Rattle.reference.specs.declared.limits.TheConstants.{MAX_TURN}
 use Rattle.hub.specs.Steps.{PlainLocked, Withholds, engine_at}
 use Rattle.hub.proofs.SizeLemmas.{same_fault}
 use Rattle.hub.proofs.WithheldLemmas.{withheld_for}
-use Rattle.workers.specs.Lacks.{Lacks, WasFull}
+use Rattle.workers.specs.Lacks.{Lacks}
+use Rattle.workers.specs.Full.{WasFull}
 
 -- where both sizes are in range
 full_in_each_size : (rows : ℕ) → 1 ≤ rows → rows ≤ MAX_TURN → WasFull rows → (rows' : ℕ) → 1 ≤ rows' → rows' ≤ MAX_TURN → WasFull rows'

@@ -3,12 +3,7 @@ use Rattle.std.specs.Prelude.{◌≡◌, ◌≤◌, ◌⊎◌, ℕ, ⊤, Option,
 use Rattle.reference.specs.declared.fault.Fault.{Fault}
 use Rattle.reference.specs.declared.fault.Fault.TheVariants.{OutOfMemory, TooManyLeases}
 use Rattle.reference.specs.declared.limits.TheConstants.{MAX_TURN}
-use Rattle.hub.specs.Steps.{PlainLocked, Withholds}
-
--- there was a moment when an operator might take something, and no turn of at most
--- so many rows went out: as many were out as may be, or all numbers were given
-abbrev pub WasFull : ℕ → Type 0
-WasFull rows = (old : PlainLocked) × (new : PlainLocked) × Withholds old rows TooManyLeases new
+use Rattle.workers.specs.Full.{WasFull}
 
 -- it is short of turns or of memory. Of turns: there was such a moment,
 -- for turns of any size; of memory: no clause says when it runs out

@@ -5,7 +5,8 @@ use Rattle.turn.specs.declared.parts.Parts.{Parts}
 use Rattle.turn.specs.declared.turns.Turn.{Turn}
 use Rattle.reference.specs.declared.fault.Fault.{Fault}
 use Rattle.reference.specs.declared.fault.Fault.TheVariants.{OutOfMemory}
-use Rattle.hub.specs.Steps.{PlainLocked, Ends, GivesUp}
+use Rattle.hub.specs.Steps.{PlainLocked}
+use Rattle.hub.specs.Workers.{Ends, GivesUp}
 
 -- IT WAS RUN, and came back so: taken in, or refused as one that is not
 -- out or as a stranger, or its query broke since memory ran out

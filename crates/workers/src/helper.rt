@@ -1,7 +1,8 @@
 //! Runs turns in a background worker: small ones in place, many query by query, full ones outside
 //! the lock.
 ghost use Rattle.reference.specs.World.{IsTurnSize};
-ghost use Rattle.hub.specs.Steps.{HasEnded, PlainLocked};
+ghost use Rattle.hub.specs.Steps.{PlainLocked};
+ghost use Rattle.hub.specs.Workers.{HasEnded};
 
 use crate::gate::Gate;
 use crate::worker::run_turn;

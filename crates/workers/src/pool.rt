@@ -4,7 +4,8 @@ ghost use Rattle.reference.specs.declared.fault.Fault.TheVariants.{BadLimit, Out
 ghost use Rattle.reference.specs.declared.fault.Fault.TheVariants.{TooManyLeases};
 ghost use Rattle.reference.specs.World.{IsTurnSize};
 ghost use Rattle.hub.specs.Steps.{PlainLocked, Rests};
-ghost use Rattle.workers.specs.Lacks.{WasFull, noted};
+ghost use Rattle.workers.specs.Lacks.{noted};
+ghost use Rattle.workers.specs.Full.{WasFull};
 ghost use Rattle.workers.specs.declared.pool.TheConstants.{MAX_WORKERS};
 
 use crate::gate::Gate;

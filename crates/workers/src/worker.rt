@@ -2,7 +2,8 @@
 ghost use Rattle.std.specs.Prelude.{IfErr, OnOk};
 ghost use Rattle.turn.specs.Turns.{Fits};
 ghost use Rattle.reference.specs.World.{IsTurnSize};
-ghost use Rattle.hub.specs.Steps.{HasEnded, PlainLocked, Rests};
+ghost use Rattle.hub.specs.Steps.{PlainLocked, Rests};
+ghost use Rattle.hub.specs.Workers.{HasEnded};
 ghost use Rattle.workers.specs.Lacks.{Lacks};
 ghost use Rattle.workers.specs.Returns.{IsBroughtBack};
 

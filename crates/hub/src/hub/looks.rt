@@ -1,12 +1,14 @@
 //! Shows what anyone may look at. No seat is needed, and nothing changes.
-ghost use Rattle.hub.specs.Steps.{PlainLocked, FindsQuery, FindsStream, SeesPeek, SeesPending};
-ghost use Rattle.hub.specs.Steps.{SeesReady, SeesSlopes, SeesStatus, SeesWaiting};
+ghost use Rattle.reference.specs.Looks.{look_of, seen_in};
+ghost use Rattle.hub.specs.Steps.{PlainLocked, FindsQuery, SeesLook};
+ghost use Rattle.hub.specs.Workers.{FindsStream, SeesPeek, SeesPending, SeesReady, SeesSlopes};
+ghost use Rattle.hub.specs.Workers.{SeesStatus, SeesWaiting};
 
 use crate::hub::Hub;
 use answer_rows::AnswerRows;
 use envelope::Slope;
 use plan::NodeKind;
-use reference::{Fault, Status};
+use reference::{Fault, Look, Seen, Status};
 use std::sync::Wait;
 
 impl Hub {
@@ -79,6 +81,18 @@ impl Hub {
         ensures { (l : PlainLocked) × SeesSlopes (λ v. v.items) l query result }
     {
         self.locked.lock(rt).slopes(query)
+    }
+
+    /// Returns what a look sees. The query's name is looked up in the same step. It makes no entry.
+    ///
+    /// # Errors
+    /// Those of `Answering::look`.
+    ///
+    /// Example: `a_hub_answers_a_look` in crates/uses/src/hubs.rt.
+    pub fn look<R: Wait>(&self, rt: &R, look: &Look) -> Result<Seen, Fault>
+        ensures { (l : PlainLocked) × SeesLook l (look_of look.now) (seen_in result) }
+    {
+        self.locked.lock(rt).look(look)
     }
 
     /// Returns the number of the stream with this name.

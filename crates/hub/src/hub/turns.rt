@@ -1,9 +1,12 @@
 //! Answers what workers call. They need no seat.
 ghost use Rattle.std.specs.Prelude.{◌≡◌, IfErr, IfOk, MatchOption, Ok, false, ⊤};
 ghost use Rattle.leases.specs.declared.leased.Leased.TheVariants.{Idle};
-ghost use Rattle.hub.specs.Steps.{PlainLocked, Drains, DrainsSome, DrainsSomeByQuery, Ends};
-ghost use Rattle.hub.specs.Steps.{Forgets, ForgetsWhenDue, GivesUp, Hands, HasEnded, IsReady};
-ghost use Rattle.hub.specs.Steps.{Lends, Rests, Withholds};
+ghost use Rattle.hub.specs.Steps.{PlainLocked};
+ghost use Rattle.hub.specs.Workers.{Drains, DrainsSome, DrainsSomeByQuery, Ends};
+ghost use Rattle.hub.specs.Steps.{Forgets, ForgetsWhenDue, Hands};
+ghost use Rattle.hub.specs.Workers.{GivesUp, HasEnded, IsReady};
+ghost use Rattle.hub.specs.Steps.{Rests, Withholds};
+ghost use Rattle.hub.specs.Workers.{Lends};
 ghost use Rattle.hub.specs.Tries.{MatchLeaseRest, MatchLeaseWait};
 
 use crate::hub::{Hub, LeaseRest, LeaseWait};

@@ -8,7 +8,8 @@ ghost use Rattle.reference.specs.Commands.{Declare, Register, Append, Heartbeat,
 ghost use Rattle.reference.specs.Replies as replies;
 ghost use Rattle.reference.specs.Replies.{Number, Rows};
 ghost use Rattle.hub.specs.Seats.{reach};
-ghost use Rattle.hub.specs.Steps.{Accepted, Barred, Declined, HasRoom, next_number};
+ghost use Rattle.hub.specs.Steps.{Accepted, Declined, HasRoom, next_number};
+ghost use Rattle.hub.specs.Workers.{Barred};
 
 use crate::carry::carry_out;
 use crate::locked::{Locked, MAX_ENTRIES};
@@ -27,6 +28,7 @@ impl Locked {
     /// # Errors
     /// `HistoryFull`, then `Foreign`, then those of `Answering::stream`. After any of them nothing
     /// has changed.
+    #[tactic(auto, unfolding(crate::specs::Steps::engine_at), using(crate::proofs::NumberLemmas::declared_number))]
     pub fn stream(
         &mut self,
         seat: &mut Seat,
@@ -40,16 +42,14 @@ impl Locked {
         ensures err { IfErr result (λ f. Declined self.old seat.old
             (Declare (string_bytes name) (texts_of columns.items) from) f self.new seat.new) }
     {
+        let number = self.engine.next_stream();
         let kind = CommandKind::Declare {
             name,
             columns,
             from,
         };
-        let (reply, receipt) = self.call(seat, Command::new(kind))?;
-        match reply.into_kind() {
-            ReplyKind::Number(number) => Ok((number, receipt)),
-            _ => unreachable!(),
-        }
+        let (_, receipt) = self.call(seat, Command::new(kind))?;
+        Ok((number, receipt))
     }
 
     /// Registers a query, and returns its number.
@@ -57,6 +57,7 @@ impl Locked {
     /// # Errors
     /// `HistoryFull`, then `Foreign`, then those of `Answering::query`. After any of them nothing
     /// has changed.
+    #[tactic(auto, unfolding(crate::specs::Steps::engine_at), using(crate::proofs::NumberLemmas::registered_number))]
     pub fn query(
         &mut self,
         seat: &mut Seat,
@@ -72,12 +73,10 @@ impl Locked {
             (Register (string_bytes name) (string_bytes text) (given_by chart))
             f self.new seat.new) }
     {
+        let number = self.engine.next_query();
         let kind = CommandKind::Register { name, text, chart };
-        let (reply, receipt) = self.call(seat, Command::new(kind))?;
-        match reply.into_kind() {
-            ReplyKind::Number(number) => Ok((number, receipt)),
-            _ => unreachable!(),
-        }
+        let (_, receipt) = self.call(seat, Command::new(kind))?;
+        Ok((number, receipt))
     }
 
     /// Appends rows to the stream with this number.

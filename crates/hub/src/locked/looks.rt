@@ -1,13 +1,16 @@
 //! Shows what anyone may look at. None of it changes anything.
 ghost use Rattle.std.specs.Prelude.{◌≡◌, length};
-ghost use Rattle.hub.specs.Steps.{FindsQuery, FindsStream, SeesPeek, SeesPending, SeesSlopes};
-ghost use Rattle.hub.specs.Steps.{SeesStatus, SeesWaiting, engine_at};
+ghost use Rattle.reference.specs.Looks.{look_of, seen_in};
+ghost use Rattle.hub.specs.Steps.{FindsQuery, SeesLook};
+ghost use Rattle.hub.specs.Workers.{FindsStream, SeesPeek, SeesPending};
+ghost use Rattle.hub.specs.Steps.{engine_at};
+ghost use Rattle.hub.specs.Workers.{SeesSlopes, SeesStatus, SeesWaiting};
 
 use crate::locked::Locked;
 use answer_rows::AnswerRows;
 use envelope::Slope;
 use plan::NodeKind;
-use reference::{Answering, Fault, Status};
+use reference::{Answering, Fault, Look, Seen, Status};
 
 impl Locked {
     /// Returns how many seats were opened.
@@ -87,6 +90,17 @@ impl Locked {
         ensures { SeesSlopes (λ v. v.items) self.now query result }
     {
         self.engine.slopes(query)
+    }
+
+    /// Returns what a look sees. The query's name is looked up in the same step.
+    ///
+    /// # Errors
+    /// Those of `Answering::look`.
+    #[tactic(auto, unfolding(crate::specs::Steps::engine_at))]
+    pub fn look(&self, look: &Look) -> Result<Seen, Fault>
+        ensures { SeesLook self.now (look_of look.now) (seen_in result) }
+    {
+        self.engine.look(look)
     }
 
     /// Returns the number of the stream with this name. Takes no memory.

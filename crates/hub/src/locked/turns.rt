@@ -1,8 +1,11 @@
 //! Answers what workers call. None of it changes the history.
 ghost use Rattle.std.specs.Prelude.{◌≡◌, ◌<◌, IfOk, IfErr, IsTrue, length, false};
-ghost use Rattle.hub.specs.Steps.{Drains, DrainsSome, DrainsSomeByQuery, Ends, GivesUp, Hands};
-ghost use Rattle.hub.specs.Steps.{HasEnded, IsIdle, IsSame, Lends, Rests, SeesReady, Withholds};
-ghost use Rattle.hub.specs.Steps.{ended, engine_at, with_engine};
+ghost use Rattle.hub.specs.Steps.{Hands};
+ghost use Rattle.hub.specs.Workers.{Drains, DrainsSome, DrainsSomeByQuery, Ends, GivesUp};
+ghost use Rattle.hub.specs.Steps.{IsIdle, Rests, Withholds};
+ghost use Rattle.hub.specs.Workers.{HasEnded, Lends, SeesReady};
+ghost use Rattle.hub.specs.Steps.{engine_at, with_engine};
+ghost use Rattle.hub.specs.Workers.{ended};
 ghost use Rattle.hub.specs.Tries.{MatchRested, MatchWaited};
 
 use crate::locked::{Locked, Rested, Waited};
@@ -114,23 +117,15 @@ impl Locked {
     }
 
     /// Returns whether an operator may take something. Takes no memory.
-    #[tactic(auto, unfolding(crate::specs::Steps::engine_at), using(crate::proofs::ReadyLemmas::none_ready, crate::proofs::ReadyLemmas::no_fault))]
-    pub fn has_ready(&mut self) -> bool
-        ensures same { IsSame self.old self.new }
-        ensures ready { SeesReady self.old result }
+    #[tactic(auto, unfolding(crate::specs::Steps::engine_at))]
+    pub fn has_ready(&self) -> bool
+        ensures { SeesReady self.now result }
     {
-        match self.engine.drain_some(1, 0) {
-            Ok(true) => true,
-            Ok(false) => false,
-            Err(_) => unreachable!(),
-        }
+        self.engine.has_ready()
     }
 
     // Returns whether threads that wait for a turn, or for rest, may go on.
-    #[tactic(auto, unfolding(crate::specs::Steps::engine_at))]
-    pub(crate) fn is_movable(&mut self) -> bool
-        ensures { IsSame self.old self.new }
-    {
+    pub(crate) fn is_movable(&self) -> bool {
         if self.engine.leases_out() == 0 {
             return true;
         }

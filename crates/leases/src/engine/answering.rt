@@ -5,6 +5,7 @@ ghost use Rattle.std.specs.Option.{option_copied};
 ghost use Rattle.plan.specs.Chart.{given_by};
 ghost use Rattle.reference.specs.Alike.{Alike};
 ghost use Rattle.reference.specs.CallViews.{handed_of, texts_of};
+ghost use Rattle.reference.specs.Looks.{NeedsWhole, Sees, look_at, look_of, seen_in, seen_of};
 ghost use Rattle.reference.specs.Steps.{AreNext};
 ghost use Rattle.reference.specs.Status.{status_of};
 ghost use Rattle.reference.specs.StatusViews.{status_in};
@@ -12,14 +13,14 @@ ghost use Rattle.reference.specs.World.{Does, Drains, IsPlenty, Looks, append_st
 ghost use Rattle.reference.specs.World.{drain_step, drop_step, heartbeat_step, peek_at};
 ghost use Rattle.reference.specs.World.{register_step, take_step};
 ghost use Rattle.reference.specs.declared.fault.Fault.TheVariants.{OutOfMemory, TooManyLeases};
-ghost use Rattle.stream_store.specs.Closing.{QueuesGain};
+ghost use Rattle.stream_store.specs.Gains.{QueuesGain};
 ghost use Rattle.run_queue.specs.Slots.{first_of};
 ghost use Rattle.laws_engine.specs.Calls.{appended, declared, dropped, heartbeat_taken};
 ghost use Rattle.laws_engine.specs.Openings.{forgotten};
 ghost use Rattle.laws_engine.specs.Promises.{AreCompleteUpto, HasAllWaiting, KeepsItsPromises};
 ghost use Rattle.leases.specs.ByQuery.{RunsByQuery};
 ghost use Rattle.leases.specs.Drains.{LeavesOthers};
-ghost use Rattle.leases.specs.Looks.{status_in_engine};
+ghost use Rattle.leases.specs.Looks.{Shows, status_in_engine};
 ghost use Rattle.leases.specs.Queues.{LeavesQueues, LengthensQueues};
 ghost use Rattle.leases.specs.Registering.{Registers};
 ghost use Rattle.leases.specs.Shown.{engine_in, world_in};
@@ -30,7 +31,7 @@ use crate::engine::Engine;
 use answer_rows::AnswerRows;
 use envelope::Slope;
 use plan::{Chart, NodeKind};
-use reference::{Answering, Fault, NewRows, Status, query_place};
+use reference::{Answering, Fault, Look, NewRows, Seen, Status, query_place};
 use values::Row;
 
 impl Answering for Engine {
@@ -223,6 +224,15 @@ impl Answering for Engine {
 
     fn slopes(&self, query: u64) -> Result<Vec<(NodeKind, Slope)>, Fault> {
         self.state.slopes(query)
+    }
+
+    fn look(&self, look: &Look) -> Result<Seen, Fault>
+        ensures looks { (NeedsWhole (look_of look.now) → IsWhole self.now)
+            → Looks seen_of (look_at (world_in self.now) (look_of look.now)) result }
+        ensures sees { Sees (world_in self.now) (look_of look.now) (seen_in result) }
+        ensures shows { Shows (engine_in self.now) (look_of look.now) (seen_in result) }
+    {
+        self.seen(look)
     }
 
     #[tactic(auto, unfolding(reference::specs::World::stream_named))]

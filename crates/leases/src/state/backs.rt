@@ -9,7 +9,6 @@ ghost use Rattle.leases.specs.Sound.{IsSound};
 ghost use Rattle.leases.specs.Turns.{Abandons};
 ghost use Rattle.leases.specs.Views.{query_of};
 
-use crate::reader::forget_readers;
 use crate::registered::Registration;
 use crate::remains::Remains;
 use crate::state::EngineState;
@@ -61,7 +60,7 @@ impl EngineState {
         ensures { Stops query self.old self.new }
     {
         self.leases.retain(|turn| turn.node.query != query);
-        forget_readers(&mut self.readers, query);
+        self.readers.forget(query);
         self.slots.drop_query(query);
     }
 }

@@ -98,7 +98,7 @@ impl EngineState {
     /// Returns after how many turns it pays to look for the ready queries. That costs a look at
     /// each window, and at each operator of its query up to the first that is ready.
     fn few_turns(&self) -> u64 {
-        self.readers.len() as u64 / LOOKS_OF_A_TURN
+        self.readers.all().len() as u64 / LOOKS_OF_A_TURN
     }
 
     /// Drains as `drain` does, in at most so many threads if they pay.
@@ -394,8 +394,8 @@ impl EngineState {
         let room = numbered.min(most);
         let mut jobs = Vec::new(self.alloc);
         let mut next: u64 = 0;
-        for place in 0..self.readers.len() {
-            let query = self.readers[place].query;
+        for place in 0..self.readers.all().len() {
+            let query = self.readers.all()[place].query;
             next = self.add_job(query, place, next, room, &mut jobs)?;
         }
         Ok(jobs)
@@ -499,8 +499,8 @@ impl EngineState {
         requires { MayLookAt (engine_in self.now) query }
     {
         let mut rows: u64 = 0;
-        for place in place..self.readers.len() {
-            let reader = &self.readers[place];
+        for place in place..self.readers.all().len() {
+            let reader = &self.readers.all()[place];
             if reader.query != query {
                 return rows;
             }
@@ -601,7 +601,7 @@ impl EngineState {
           next = self.old.next + turns;
         } }
         ensures undropped { self.new.undropped ≡ self.old.undropped }
-        ensures readers { self.new.readers.items ≡ self.old.readers.items }
+        ensures readers { self.new.readers ≡ self.old.readers }
         ensures leases { self.new.leases.items ≡ self.old.leases.items }
     {
         self.remains[query as usize] = remains;

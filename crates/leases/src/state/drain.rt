@@ -5,8 +5,9 @@ ghost use Rattle.std.specs.List.{AllByRecursion};
 ghost use Rattle.reference.specs.World.{drain_fault};
 ghost use Rattle.reference.specs.declared.fault.Fault.TheVariants.{BadLimit, OutOfMemory};
 ghost use Rattle.reference.specs.declared.fault.Fault.TheVariants.{TooManyLeases};
-ghost use Rattle.run_queue.specs.Slots.{Stands, first_of};
-ghost use Rattle.laws_queries.specs.Queries.{PlainQuery};
+ghost use Rattle.run_queue.specs.Slots.{first_of};
+ghost use Rattle.run_queue.specs.Changes.{Stands};
+ghost use Rattle.laws_queries.specs.Plain.{PlainQuery};
 ghost use Rattle.laws_engine.specs.Engines.{Running};
 ghost use Rattle.leases.specs.Applied.{AllStand, GivesNothing, IsAbove};
 ghost use Rattle.leases.specs.Asked.{HasOperatorAt};
@@ -347,8 +348,7 @@ fn run_in(
         → (p2 : PlainQuery) × ((remains_of remains.new ≡ Running p2)
         × HasStoppedOn refused streams.now p slot.now rows p2)) }
 {
-    match remains {
-        Remains::Running(query) => { query.run(alloc, streams, slot.operator(), slot.side(), rows) }
-        _ => unreachable!(),
-    }
+    remains
+        .running_mut()
+        .run(alloc, streams, slot.operator(), slot.side(), rows)
 }

@@ -4,7 +4,7 @@ ghost use Rattle.std.specs.List.{find};
 ghost use Rattle.std.specs.Option.{option_map};
 ghost use Rattle.turn.specs.Finished.{IsDone};
 ghost use Rattle.reference.specs.declared.fault.Fault.TheVariants.{OutOfMemory};
-ghost use Rattle.laws_queries.specs.Queries.{PlainQuery};
+ghost use Rattle.laws_queries.specs.Plain.{PlainQuery};
 ghost use Rattle.laws_engine.specs.Engines.{Broken, Running};
 ghost use Rattle.leases.specs.Applied.{Forgets, GivesNothing, HasApplied, HasEnded};
 ghost use Rattle.leases.specs.Applied.{HasWiredOperators, IsAbove, IsApplied, IsBroken};
@@ -176,15 +176,12 @@ fn take_turn(remains: &mut Remains, streams: &Streams, parts: Parts) -> Result<(
         outputs,
         change,
     } = parts;
-    match remains {
-        Remains::Running(query) => query.finish(
-            streams,
-            node.operator,
-            node.side,
-            item.item(),
-            &change,
-            outputs,
-        ),
-        _ => unreachable!(),
-    }
+    remains.running_mut().finish(
+        streams,
+        node.operator,
+        node.side,
+        item.item(),
+        &change,
+        outputs,
+    )
 }

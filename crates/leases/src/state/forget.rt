@@ -1,6 +1,7 @@
 //! Gives up the rows that no query needs any longer.
-ghost use Rattle.std.specs.Prelude.{◌≡◌, ◌⊎◌, ◌++◌, ◌+◌, ◌≤◌, IfOk, OnErr, OnOk, Some};
+ghost use Rattle.std.specs.Prelude.{◌≡◌, ◌⊎◌, ◌++◌, ◌+◌, ◌-◌, ◌≤◌, IfOk, OnErr, OnOk, Some};
 ghost use Rattle.std.specs.Prelude.{ℕ, Bool, map, max, slice_get};
+ghost use Rattle.std.specs.Option.{option_map_or};
 ghost use Rattle.std.specs.List.{range_with_len};
 ghost use Rattle.values.specs.Row.{value_at};
 ghost use Rattle.values.specs.Window.{Element};
@@ -10,11 +11,12 @@ ghost use Rattle.reference.specs.Opening.{all_instants, restart, with_kept};
 ghost use Rattle.stream_store.specs.Closing.{closed_of};
 ghost use Rattle.needed_rows.specs.Needed.{is_needed_by_some, lists, readers_in};
 ghost use Rattle.needed_rows.specs.Queries.{readers_of};
-ghost use Rattle.laws_dataflow.specs.Queries.{behind};
+ghost use Rattle.laws_dataflow.specs.Roots.{behind};
 ghost use Rattle.laws_engine.specs.Engines.{answers_in};
 ghost use Rattle.laws_engine.specs.Openings.{forgotten, mark_in};
 ghost use Rattle.leases.specs.Forgets.{AreMarkable, AreReadIn, IsMarkable, IsReadLog, IsSaid};
-ghost use Rattle.leases.specs.Forgets.{Says, earlier_in, going_in, needs_in, restarted_by};
+ghost use Rattle.leases.specs.Forgets.{Says, counted, earlier_in, going_in, most_after, needs_in};
+ghost use Rattle.leases.specs.Forgets.{restarted_by, walked_in};
 ghost use Rattle.leases.specs.Going.{all_sources};
 ghost use Rattle.leases.specs.Keeping.{start_of};
 ghost use Rattle.leases.specs.Shown.{engine_in};
@@ -68,6 +70,8 @@ impl EngineState {
         requires { IsSound self.old }
         ensures ok { OnOk result (engine_in self.new ≡ forgotten (engine_in self.old)) }
         ensures err { OnErr result (engine_in self.new ≡ engine_in self.old) }
+        ensures stored { OnOk result (self.new.stored ≡ counted (walked_in (engine_in self.new))) }
+        ensures left { OnOk result (self.new.left ≡ self.new.stored) }
         ensures sound { IsSound self.new }
     {
         let kept = self.kept_rows()?;
@@ -84,6 +88,7 @@ impl EngineState {
         requires { IsSound self.old }
         ensures forgotten { (engine_in self.new ≡ engine_in self.old)
             ⊎ (engine_in self.new ≡ forgotten (engine_in self.old)) }
+        ensures pays { self.new.stored ≤ most_after self.new.left }
         ensures sound { IsSound self.new }
     {
         let most = self.left.saturating_mul(2).saturating_add(ROWS_BEFORE_TIDY);
@@ -94,24 +99,37 @@ impl EngineState {
 
     /// Counts the rows that came to the stream with this number since `before` had come.
     pub(crate) fn count_stored(&mut self, stream: u64, before: u64)
-        ensures { self.new ≡ record self.old { stored = self.new.stored } }
+        ensures same { self.new ≡ record self.old { stored = self.new.stored } }
+        ensures stored { self.new.stored ≡ counted (self.old.stored
+            + (option_map_or (λ s. s.arrivals) (slice_get self.old.streams stream) 0 - before)) }
     {
         let rows = self.streams.arrivals(stream).saturating_sub(before);
         self.stored = self.stored.saturating_add(rows);
     }
 
-    /// Counts what a forgetting left and walked over: the rows of all streams, and the queries that
-    /// were ever registered.
+    /// Counts what a forgetting left and walked over.
     fn count_left(&mut self)
-        ensures { self.new ≡ record self.old { stored = self.new.stored; left = self.new.left } }
+        ensures same { self.new
+            ≡ record self.old { stored = self.new.stored; left = self.new.left } }
+        ensures stored { self.new.stored ≡ counted (walked_in (engine_in self.old)) }
+        ensures left { self.new.left ≡ self.new.stored }
     {
-        let mut left = self.registered.len() as u64;
+        let walked = self.walked();
+        self.stored = walked;
+        self.left = walked;
+    }
+
+    /// Counts what a forgetting walks over: the rows of all streams, and the queries that were ever
+    /// registered. No more than 2^64 - 1.
+    fn walked(&self) -> u64
+        ensures { result ≡ counted (walked_in (engine_in self.now)) }
+    {
+        let mut walked = self.registered.len() as u64;
         for stream in 0..self.streams.len() {
             let rows = self.streams.kept(stream as u64).unwrap_or(0);
-            left = left.saturating_add(rows as u64);
+            walked = walked.saturating_add(rows as u64);
         }
-        self.stored = left;
-        self.left = left;
+        walked
     }
 
     /// Says what stays of each stream, by number.

@@ -2,11 +2,13 @@
 ghost use Rattle.std.specs.Prelude.{◌≡◌, ◌<◌, ◌++◌, IfOk, OnErr, OnOk, length, slice_get};
 ghost use Rattle.std.specs.List.{AllByRecursion};
 ghost use Rattle.reference.specs.World.{Does, heartbeat_step};
-ghost use Rattle.stream_store.specs.Closing.{QueuesGain};
+ghost use Rattle.stream_store.specs.Gains.{QueuesGain};
 ghost use Rattle.laws_engine.specs.Calls.{heartbeat_taken};
-ghost use Rattle.laws_queries.specs.Queries.{PlainQuery};
-ghost use Rattle.laws_engine.specs.Engines.{GoodEngine, Running};
+ghost use Rattle.laws_queries.specs.Plain.{PlainQuery};
+ghost use Rattle.laws_engine.specs.Engines.{Running};
+ghost use Rattle.laws_engine.specs.Good.{GoodEngine};
 ghost use Rattle.leases.specs.Asked.{HasOperatorAt};
+ghost use Rattle.leases.specs.ByStream.{over_stream};
 ghost use Rattle.query_runtime.specs.Turns.{HasOperator};
 ghost use Rattle.leases.specs.Queues.{LengthensQueues};
 ghost use Rattle.leases.specs.Readers.{idle_slot, idle_slots, is_idle_at, is_idle_in, with_slots};
@@ -26,8 +28,8 @@ use stream_store::Streams;
 impl EngineState {
     /// Closes all instants of the stream up to `at`.
     ///
-    /// It costs the closed rows, and a look at each window of the running queries. It also changes
-    /// the slots of the windows over the stream that had nothing to take.
+    /// It costs the closed rows, and a look at each window over the stream. It also changes the
+    /// slots of those that had nothing to take.
     pub(crate) fn heartbeat(&mut self, stream: u64, at: i64) -> Result<(), Fault>
         requires { IsSound self.old }
         ensures does { Does (λ u. u) (world_in self.old)
@@ -52,13 +54,11 @@ impl EngineState {
     fn idle_readers(&self, stream: u64) -> Result<Vec<Slot>, AllocError>
         requires { GoodEngine (engine_in self.now) }
         ensures { IfOk result (λ slots. slots.items
-            ≡ idle_slots (engine_in self.now) stream self.now.readers.items) }
+            ≡ idle_slots (engine_in self.now) (over_stream stream self.now.readers)) }
     {
         let mut slots = Vec::new(self.alloc);
-        for place in 0..self.readers.len() {
-            if self.readers[place].reads(stream) {
-                self.push_if_idle(&self.readers[place], &mut slots)?;
-            }
+        for reader in self.readers.over(stream) {
+            self.push_if_idle(reader, &mut slots)?;
         }
         Ok(slots)
     }

@@ -1,7 +1,7 @@
 //! Drains a query by itself.
 ghost use Rattle.std.specs.Prelude.{◌≡◌, ◌<◌, ◌≤◌, ◌*◌, ◌⊎◌, IfErr, IfSome, OnOk, Some, false};
 ghost use Rattle.std.specs.Prelude.{length};
-ghost use Rattle.laws_queries.specs.Queries.{PlainQuery};
+ghost use Rattle.laws_queries.specs.Plain.{PlainQuery};
 ghost use Rattle.laws_engine.specs.Engines.{Running};
 ghost use Rattle.query_runtime.specs.Passing.{HasOperators};
 ghost use Rattle.leases.specs.Alone.{HasRunAlone, HasStoppedOwn, IsReadyIn, MayPassOwn};
@@ -118,20 +118,16 @@ fn run_remains(
         → (p2 : PlainQuery) × ((remains_of remains.new ≡ Running p2)
         × HasRunAlone streams.now quota p result p2) }
 {
-    match remains {
-        Remains::Running(query) => {
-            let before = query.waiting();
-            let ran = run_alone(query, streams, registration, alloc, quota);
-            let answers = query.waiting().saturating_sub(before) as u64;
-            if ran.turns < quota.turns {
-                registration
-                    .pace
-                    .note(rows, ran.turns.saturating_add(answers));
-            }
-            ran
-        },
-        _ => unreachable!(),
+    let query = remains.running_mut();
+    let before = query.waiting();
+    let ran = run_alone(query, streams, registration, alloc, quota);
+    let answers = query.waiting().saturating_sub(before) as u64;
+    if ran.turns < quota.turns {
+        registration
+            .pace
+            .note(rows, ran.turns.saturating_add(answers));
     }
+    ran
 }
 
 /// Runs turns of a query in place until none of its operators may take anything, or it has run as

@@ -1,17 +1,19 @@
 //! Makes the state of an empty engine, and looks up what calls need.
-ghost use Rattle.std.specs.Prelude.{◌≡◌, ◌<◌, IfSome, Some, length, slice_get};
+ghost use Rattle.std.specs.Prelude.{◌≡◌, ◌↔◌, ◌<◌, IfSome, IsTrue, Some, length, slice_get};
 ghost use Rattle.std.specs.Option.{option_map};
 ghost use Rattle.reference.specs.Commands.{Drop, first_fault};
 ghost use Rattle.reference.specs.Machine as machine;
 ghost use Rattle.reference.specs.Machine.{Registered};
 ghost use Rattle.reference.specs.Told.{IsTold};
-ghost use Rattle.laws_queries.specs.Queries.{PlainQuery};
+ghost use Rattle.laws_queries.specs.Plain.{PlainQuery};
 ghost use Rattle.laws_engine.specs.Engines.{Running, is_leased, next_at, query_at, remains_at};
 ghost use Rattle.laws_engine.specs.Engines.{slope_at, slot_at};
 ghost use Rattle.leases.specs.Asked.{HasOperatorAt, IsRunningAt};
 ghost use Rattle.leases.specs.Shown.{engine_in};
+ghost use Rattle.leases.specs.Turns.{HasReady};
 ghost use Rattle.leases.specs.Views.{query_of};
 
+use crate::readers::Readers;
 use crate::registered::Registration;
 use crate::remains::Remains;
 use crate::state::EngineState;
@@ -39,7 +41,7 @@ impl EngineState {
             undropped: Undropped::new(alloc),
             registered: Vec::new(alloc),
             remains: Vec::new(alloc),
-            readers: Vec::new(alloc),
+            readers: Readers::new(alloc),
             leases: Vec::new(alloc),
             next: 0,
             slots: RunQueue::new(alloc),
@@ -80,6 +82,20 @@ impl EngineState {
             Remains::Running(query) => query,
             _ => unreachable!(),
         }
+    }
+
+    /// Returns whether an operator may take something.
+    pub(crate) fn any_ready(&self) -> bool
+        ensures { IsTrue result ↔ HasReady (engine_in self.now) }
+    {
+        self.slots.first().is_some()
+    }
+
+    /// Returns the number that the next stream gets.
+    pub(crate) fn next_stream(&self) -> u64
+        ensures { result ≡ length (engine_in self.now).machine.streams }
+    {
+        self.streams.len() as u64
     }
 
     /// Returns whether a turn of the operator is out.

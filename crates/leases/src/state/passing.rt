@@ -1,7 +1,7 @@
 //! Lets a query pass instants at which it has nothing to do, within a drain.
 ghost use Rattle.std.specs.Prelude.{◌≡◌, ◌+◌, ◌<◌, ⊤, IfOk, MatchOption, Some, false, true};
 ghost use Rattle.run_queue.specs.Slots.{first_of};
-ghost use Rattle.laws_queries.specs.Queries.{PlainQuery};
+ghost use Rattle.laws_queries.specs.Plain.{PlainQuery};
 ghost use Rattle.laws_engine.specs.Engines.{Running};
 ghost use Rattle.query_runtime.specs.Passing.{AreQuiet, HavePassed};
 ghost use Rattle.leases.specs.Applied.{GivesNothing};
@@ -132,8 +132,5 @@ fn pass_in(remains: &mut Remains, until: u64)
     ensures { (p : PlainQuery) → remains_of remains.old ≡ Running p
         → (p2 : PlainQuery) × ((remains_of remains.new ≡ Running p2) × HavePassed until p p2) }
 {
-    match remains {
-        Remains::Running(query) => query.pass(until),
-        _ => unreachable!(),
-    }
+    remains.running_mut().pass(until);
 }

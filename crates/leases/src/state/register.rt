@@ -1,9 +1,9 @@
 //! Registers queries.
 ghost use Rattle.reference.specs.Opening.{all_instants};
-ghost use Rattle.std.specs.Prelude.{◌≡◌, ◌<◌, ◌≤◌, ◌+◌, ◌++◌, ℕ, false, [], IfOk};
-ghost use Rattle.std.specs.Prelude.{IfSome, None, OnErr, OnOk, length, map};
+ghost use Rattle.std.specs.Prelude.{◌≡◌, ◌<◌, ◌≤◌, ◌^◌, ◌++◌, ℕ, false, [], IfOk};
+ghost use Rattle.std.specs.Prelude.{IfSome, None, OnErr, OnOk, length, map, position};
 ghost use Rattle.std.specs.Option.{option_copied};
-ghost use Rattle.std.specs.Vec.{vec_capacity, vec_len};
+ghost use Rattle.name_table.specs.Names.{bears};
 ghost use Rattle.names.specs.Faults.{first_of};
 ghost use Rattle.plan.specs.Chart.{given_by};
 ghost use Rattle.plan.specs.Views.{nodes_of};
@@ -13,23 +13,26 @@ ghost use Rattle.reference.specs.Places.{machine_of};
 ghost use Rattle.reference.specs.Machine.{first_for};
 ghost use Rattle.reference.specs.Told.{IsTold};
 ghost use Rattle.reference.specs.World.{Does, register_step};
-ghost use Rattle.laws_queries.specs.Queries.{PlainQuery, node_at};
+ghost use Rattle.laws_queries.specs.Plain.{PlainQuery, node_at};
 ghost use Rattle.laws_queries.specs.Registrations.{MayMake};
-ghost use Rattle.run_queue.specs.Slots.{without_query};
+ghost use Rattle.run_queue.specs.Changes.{without_query};
 ghost use Rattle.laws_engine.specs.Calls.{registered};
-ghost use Rattle.laws_engine.specs.Engines.{GoodEngine};
+ghost use Rattle.laws_engine.specs.Good.{GoodEngine};
 ghost use Rattle.laws_engine.specs.Accepted.{IsBegun, IsPlanOfText, newest};
 ghost use Rattle.query_runtime.specs.Turns.{IsBeginning};
 ghost use Rattle.values.specs.Resolved.{resolved_of};
+ghost use Rattle.leases.specs.ByStream.{but_query};
 ghost use Rattle.leases.specs.Readers.{HasSource, reader_in, windows_from};
 ghost use Rattle.leases.specs.Registering.{IsNewQuery, Registers, RegistersPlan, new_slot};
 ghost use Rattle.leases.specs.Registering.{with_first};
 ghost use Rattle.leases.specs.Shown.{engine_in, world_in};
 ghost use Rattle.leases.specs.Sound.{IsSound};
+ghost use Rattle.leases.specs.Undropped.{with_name};
 ghost use Rattle.leases.specs.Views.{place_of, query_of};
 
 use crate::pace::Pace;
 use crate::reader::WindowReader;
+use crate::readers::Readers;
 use crate::registered::{Registration, SourcePlace};
 use crate::remains::Remains;
 use crate::state::EngineState;
@@ -126,7 +129,7 @@ impl EngineState {
 
     /// Returns the number of the next query.
     #[tactic(auto, using(crate::proofs::AddLemmas::many_told))]
-    fn next_query(&self) -> u64
+    pub(crate) fn next_query(&self) -> u64
         ensures { result ≡ length (engine_in self.now).machine.queries }
     {
         self.registered.len() as u64
@@ -157,7 +160,6 @@ impl EngineState {
         let number = self.next_query();
         self.registered.reserve(1)?;
         self.remains.reserve(1)?;
-        self.readers.reserve(told.nodes().len())?;
         put_slots(
             &mut self.slots,
             &self.streams,
@@ -165,14 +167,42 @@ impl EngineState {
             &told.slopes,
             number,
         )?;
-        let Ok(()) = self.undropped.add(name, &told, number) else {
+        let Ok(()) = self.list(name, &told, number) else {
             self.slots.drop_query(number);
             return Err(AllocError);
         };
-        put_readers(&mut self.readers, &told, number);
         self.registered.push_reserved(told);
         self.remains.push_reserved(Remains::Running(running));
         Ok(number)
+    }
+
+    /// Lists the windows, the name and the row limits of the query that is being registered.
+    ///
+    /// # Errors
+    /// `AllocError` when out of memory; then nothing has changed.
+    fn list(&mut self, name: &str, told: &Registration, number: u64) -> Result<(), AllocError>
+        requires fresh { position (bears name.now) self.old.undropped.names ≡ None }
+        requires room { length self.old.undropped.names < 2 ^ 63 }
+        requires sources { (k : ℕ) → k < length (query_of told.now).nodes
+            → HasSource (query_of told.now) (node_at (query_of told.now) k) }
+        requires others { but_query number self.old.readers ≡ self.old.readers }
+        ensures ok { OnOk result (self.new
+            ≡ record self.old {
+              undropped = with_name self.old.undropped name.now number (query_of told.now);
+              readers = self.old.readers
+                  ++ windows_from (query_of told.now) number 0 (query_of told.now).nodes;
+            }) }
+        ensures err { OnErr result (self.new ≡ self.old) }
+    {
+        let Ok(()) = put_readers(&mut self.readers, told, number) else {
+            self.readers.forget(number);
+            return Err(AllocError);
+        };
+        let Ok(()) = self.undropped.add(name, told, number) else {
+            self.readers.forget(number);
+            return Err(AllocError);
+        };
+        Ok(())
     }
 }
 
@@ -332,21 +362,24 @@ fn new_slot(
     Slot::new(slopes[operator], next, number, operator)
 }
 
-/// Appends the windows of a new query to the readers. There is room for them.
-fn put_readers(readers: &mut Vec<WindowReader>, query: &Registration, number: u64)
-    requires room { vec_len readers.old + length (query_of query.now).nodes
-        ≤ vec_capacity readers.old }
-    requires sources { (k : ℕ) → k < length (query_of query.now).nodes
+/// Appends the windows of a new query to the readers.
+///
+/// # Errors
+/// `AllocError` when out of memory; then the other queries' windows are as they were.
+fn put_readers(readers: &mut Readers, query: &Registration, number: u64) -> Result<(), AllocError>
+    requires { (k : ℕ) → k < length (query_of query.now).nodes
         → HasSource (query_of query.now) (node_at (query_of query.now) k) }
-    ensures { readers.new.items
-        ≡ readers.old.items
-        ++ windows_from (query_of query.now) number 0 (query_of query.now).nodes }
+    ensures ok { OnOk result (readers.new
+        ≡ readers.old
+        ++ windows_from (query_of query.now) number 0 (query_of query.now).nodes) }
+    ensures err { OnErr result (but_query number readers.new ≡ but_query number readers.old) }
 {
     for operator in 0..query.nodes().len() {
         if let Some(reader) = reader_of(query, number, operator) {
-            readers.push_reserved(reader);
+            readers.push(reader)?;
         }
     }
+    Ok(())
 }
 
 /// Makes a reader of the operator of the query with this number, if it is a window.

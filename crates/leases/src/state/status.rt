@@ -3,8 +3,9 @@ ghost use Rattle.std.specs.Prelude.{◌≡◌, ◌+◌, ◌≤◌, ◌++◌, ℕ
 ghost use Rattle.reference.specs.Opening.{all_instants};
 ghost use Rattle.reference.specs.Status.{last_before, query_status, stream_status};
 ghost use Rattle.reference.specs.StatusViews.{query_status_in, status_in, stream_status_in};
-ghost use Rattle.laws_dataflow.specs.Queries.{behind};
-ghost use Rattle.laws_engine.specs.Engines.{answers_in, upto_at, upto_in};
+ghost use Rattle.laws_dataflow.specs.Roots.{behind};
+ghost use Rattle.laws_engine.specs.Engines.{answers_in, upto_in};
+ghost use Rattle.laws_engine.specs.Good.{upto_at};
 ghost use Rattle.leases.specs.Asked.{IsRunningAt};
 ghost use Rattle.leases.specs.Forgets.{AreMarkable, IsMarkable};
 ghost use Rattle.leases.specs.Looks.{is_broken, queries_in, status_at, status_in_engine};

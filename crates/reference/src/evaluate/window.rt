@@ -1,7 +1,7 @@
 //! Decides what a window shows of its input at an instant.
 ghost use Rattle.std.specs.Prelude.{◌≡◌, ◌<◌, IfOk, length, get_or, count_by, ◌&&◌, nat_le};
 ghost use Rattle.values.specs.Window as windows;
-ghost use Rattle.values.specs.Resolved.{window_of, CanSlide};
+ghost use Rattle.values.specs.Resolved.{window_of};
 ghost use Rattle.reference.specs.Views.{elements_of, element_at, lent_of};
 
 use std::alloc::{AllocError, Global};
@@ -53,21 +53,14 @@ pub(crate) fn count_later(columns: &[usize], at: u64, input: &[(u64, Row)], i: u
 /// Returns whether the window shows the element at `i` at the instant.
 pub(crate) fn shows(from: u64, window: &Window, at: u64, input: &[(u64, Row)], i: usize) -> bool
     requires i_in { i < length input.now }
-    requires slides { CanSlide window.now }
     ensures { result
         ≡ windows.shows from (window_of window.now) at (elements_of input.now)
         (element_at input.now i) }
 {
-    let instant = input[i].0;
     match window {
-        Window::Range(back) => at.saturating_sub(*back) <= instant && instant <= at,
-        Window::RangeSlide(back, step) => {
-            let last = at / *step * *step;
-            from <= last && last.saturating_sub(*back) <= instant && instant <= last
-        }
-        Window::Unbounded => instant <= at,
+        Window::Instants(reach) => reach.shows(from, at, input[i].0),
         Window::LastRows(columns, most) => {
-            instant <= at && (count_later(columns, at, input, i) as u64) < *most
+            input[i].0 <= at && (count_later(columns, at, input, i) as u64) < *most
         }
     }
 }
@@ -80,7 +73,6 @@ pub(crate) fn window_rows<'a>(
     at: u64,
     input: &'a [(u64, Row)],
 ) -> Result<Vec<&'a Row>, AllocError>
-    requires { CanSlide window.now }
     ensures { IfOk result
         (λ v. lent_of v.items
         ≡ windows.window_rows from (window_of window.now) at (elements_of input.now)) }

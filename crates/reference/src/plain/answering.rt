@@ -5,6 +5,7 @@ ghost use Rattle.reference.specs.PlainViews.{world_of};
 
 use crate::answering::Answering;
 use crate::fault::Fault;
+use crate::look::{Look, Seen};
 use crate::new_rows::NewRows;
 use crate::plain::Plain;
 use crate::refusals::turn_fault;
@@ -120,6 +121,10 @@ impl Answering for Plain {
             Some(query) => Ok(query.operators(self.alloc)?),
             None => Err(Fault::UnknownQuery),
         }
+    }
+
+    fn look(&self, look: &Look) -> Result<Seen, Fault> {
+        self.seen(look)
     }
 
     #[tactic(auto, unfolding(crate::specs::World::stream_named))]

@@ -10,9 +10,9 @@ ghost use Rattle.reference.specs.PlainViews.{machine_in, world_of};
 ghost use Rattle.reference.specs.Standing.{found_of, query_of, waiting_of, upto_of, fresh_of};
 ghost use Rattle.reference.specs.Machine.{ends_at};
 ghost use Rattle.reference.specs.Places.{machine_of};
-ghost use Rattle.names.specs.Sound.{has_narrow_rows, all_slide};
+ghost use Rattle.names.specs.Sound.{has_narrow_rows};
 ghost use Rattle.names.specs.Faults.{first_of};
-ghost use Rattle.names.specs.Views.{names_of};
+ghost use Rattle.names.specs.Names.{names_of};
 ghost use Rattle.cql_reader.specs.Lexis.{is_name};
 
 use crate::new_rows::NewRows;
@@ -83,7 +83,6 @@ impl Plain {
         requires fresh { first_of (register_tests (machine_in self.old) name.now) ≡ None }
         requires fits { has_narrow_rows plan.meaning.shape ≡ true }
         requires sources { length plan.meaning.windows.items ≡ length plan.streams.items }
-        requires slides { all_slide plan.meaning.windows.items ≡ true }
         ensures number { IfOk result (λ n. n ≡ length self.old.queries.items) }
         ensures ok { OnOk result (world_of self.new
             ≡ record {

@@ -1,7 +1,7 @@
 //! Finds what the text of a query means to the plain engine.
 ghost use Rattle.std.specs.Prelude.{◌≡◌, IfOk, length, true};
 ghost use Rattle.std.specs.Option.{option_copied};
-ghost use Rattle.names.specs.Sound.{has_narrow_rows, all_slide};
+ghost use Rattle.names.specs.Sound.{has_narrow_rows};
 ghost use Rattle.plan.specs.Chart.{given_by};
 ghost use Rattle.reference.specs.Commands.{found};
 ghost use Rattle.reference.specs.Finds.{Finds};
@@ -20,7 +20,6 @@ impl Plain {
         ensures fits { IfOk result (λ p. has_narrow_rows p.meaning.shape ≡ true) }
         ensures sources { IfOk result (λ p. length p.meaning.windows.items
             ≡ length p.streams.items) }
-        ensures slides { IfOk result (λ p. all_slide p.meaning.windows.items ≡ true) }
     {
         find_plan(self.alloc, &self.catalog, text, chart)
     }

@@ -1,12 +1,17 @@
 //! Looks at what waits, and how far streams and queries are.
 ghost use Rattle.std.specs.Prelude.{◌≡◌, IfOk, None, length, map, min, nat_abs, take};
 ghost use Rattle.reference.specs.Commands.{first_fault, Take};
+ghost use Rattle.reference.specs.Looks.{Sees, look_at, look_of, peek_rows, seen_in, seen_of};
+ghost use Rattle.reference.specs.Looks.{show_plan};
 ghost use Rattle.reference.specs.PlainViews.{machine_in, world_of};
 ghost use Rattle.reference.specs.Standing.{query_of, upto_of, waiting_of};
 ghost use Rattle.reference.specs.Status.{queries_status, status_of, stream_status};
 ghost use Rattle.reference.specs.StatusViews.{query_status_in, status_in, stream_status_in};
-ghost use Rattle.reference.specs.World.{handed, waiting_at};
+ghost use Rattle.reference.specs.World.{Looks, handed, waiting_at};
 
+use crate::answering::Answering;
+use crate::fault::Fault;
+use crate::look::{Look, Seen};
 use crate::plain::Plain;
 use crate::standing::StandingQuery;
 use crate::status::{QueryStatus, Status, StreamStatus};
@@ -15,6 +20,40 @@ use answer_rows::AnswerRows;
 use std::alloc::{AllocError, Global};
 
 impl Plain {
+    /// Returns what a look sees.
+    pub(crate) fn seen(&self, look: &Look) -> Result<Seen, Fault>
+        ensures looks { Looks seen_of (look_at (world_of self.now) (look_of look.now)) result }
+        ensures sees { Sees (world_of self.now) (look_of look.now) (seen_in result) }
+    {
+        match look {
+            Look::Peek { query, limit } => self.peek_named(query.as_str(), *limit),
+            Look::Plan { query } => self.slopes_named(query.as_str()),
+            Look::Status => Ok(Seen::Status(self.all_status()?)),
+        }
+    }
+
+    /// Returns what a take of the query with this name would return.
+    fn peek_named(&self, query: &str, limit: i64) -> Result<Seen, Fault>
+        ensures looks { Looks seen_of (look_at (world_of self.now) (peek_rows query.now limit))
+            result }
+        ensures sees { Sees (world_of self.now) (peek_rows query.now limit) (seen_in result) }
+    {
+        match self.query_named(query) {
+            Some(number) => Ok(Seen::Answers(self.peek(number, limit)?)),
+            None => Err(Fault::UnknownQuery),
+        }
+    }
+
+    /// Returns what each operator of the query with this name does, and its slope.
+    fn slopes_named(&self, query: &str) -> Result<Seen, Fault>
+        ensures { Looks seen_of (look_at (world_of self.now) (show_plan query.now)) result }
+    {
+        match self.query_named(query) {
+            Some(number) => Ok(Seen::Operators(self.slopes(number)?)),
+            None => Err(Fault::UnknownQuery),
+        }
+    }
+
     /// Returns the first answers that wait, at most `limit`, which wait on.
     ///
     /// # Errors

@@ -7,7 +7,7 @@ ghost use Rattle.reference.specs.Commands as commands;
 ghost use Rattle.reference.specs.Commands.{is_crowded, registered_as, took};
 ghost use Rattle.reference.specs.World.{handed};
 ghost use Rattle.reference.specs.CallViews.{handed_of};
-ghost use Rattle.names.specs.Sound.{has_narrow_rows, all_slide};
+ghost use Rattle.names.specs.Sound.{has_narrow_rows};
 ghost use Rattle.reference.specs.Places.{machine_of};
 ghost use Rattle.reference.specs.Standing.{query_of, waiting_of, upto_of, found_of};
 ghost use Rattle.reference.specs.Views.{pairs_of};
@@ -32,7 +32,6 @@ impl StandingQuery {
     ) -> Result<StandingQuery, AllocError>
         requires fits { has_narrow_rows plan.meaning.shape ≡ true }
         requires sources { length plan.meaning.windows.items ≡ length plan.streams.items }
-        requires slides { all_slide plan.meaning.windows.items ≡ true }
         ensures query { IfOk result (λ q. query_of q
             ≡ registered_as (machine_of streams.now) (string_bytes name) (found_of plan)) }
         ensures waiting { IfOk result (λ q. waiting_of q ≡ []) }

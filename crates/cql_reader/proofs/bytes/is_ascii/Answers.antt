@@ -1,6 +1,6 @@
 use Rattle.std.proofs.Common.{Bool, sym, ap, ◌∙◌, arith, ◌&&◌, get_or, drop, ◌+◌, nat_lt}
 use Rattle.std.proofs.lemmas.Bool.{lt-ltb, le-ltb}
-use Rattle.cql_reader.specs.Lexis.{all_ascii}
+use Rattle.cql_reader.specs.Scanning.{all_ascii}
 use Rattle.cql_reader.proofs.Ascii.{ascii_step, ascii_end}
 use Rattle.cql_reader.proofs.Steps.{true_and}
 use Rattle.cql_reader.proofs.bytes.is_ascii.Goals as goal

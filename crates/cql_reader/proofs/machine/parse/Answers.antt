@@ -4,7 +4,7 @@ use Rattle.cql_reader.specs.declared.symbols.Symbol.{Symbol}
 use Rattle.cql_reader.specs.declared.tokens.TokenKind.{TokenKind}
 use Rattle.cql_reader.specs.declared.tokens.Token.{Token as CodedToken}
 use Rattle.cql_reader.specs.declared.ReadFault.{ReadFault}
-use Rattle.cql_reader.specs.Tokens.{scan_from}
+use Rattle.cql_reader.specs.Scanning.{scan_from}
 use Rattle.cql_reader.specs.Grammar.{whole, start}
 use Rattle.cql_reader.specs.Prediction.{ahead, chosen, parsed, stopped}
 use Rattle.cql_reader.specs.Coded.{Tells, draft_of, rest_of}

@@ -1,7 +1,7 @@
 use Rattle.std.proofs.Common.{reverse}
 use Rattle.cql_reader.specs.Coded.{IsInside, rest_of}
 use Rattle.cql_reader.specs.Prediction.{parsed}
-use Rattle.cql_reader.specs.Tokens.{scan_from}
+use Rattle.cql_reader.specs.Scanning.{scan_from}
 use Rattle.cql_reader.specs.Coded.{draft_of}
 use Rattle.cql_reader.proofs.Runs.{Runs, left}
 use Rattle.cql_reader.proofs.machine.parse.Given as goal

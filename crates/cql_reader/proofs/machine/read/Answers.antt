@@ -3,10 +3,10 @@ use Rattle.std.proofs.lemmas.Result.{err_from_is_err_and}
 use Rattle.cql_reader.specs.Fault.{Fault}
 use Rattle.cql_reader.specs.Query.{Query}
 use Rattle.cql_reader.proofs.WellFormed.{well_formed}
-use Rattle.cql_reader.specs.Tokens.{scan_from}
+use Rattle.cql_reader.specs.Scanning.{scan_from}
 use Rattle.cql_reader.specs.Prediction.{parsed}
 use Rattle.cql_reader.specs.Coded.{Tells}
-use Rattle.cql_reader.specs.Reading.{judged, reading}
+use Rattle.cql_reader.specs.Judging.{judged, reading}
 use Rattle.cql_reader.proofs.Readings.{told_judged, reading_long, reading_not_ascii, reading_fine}
 use Rattle.cql_reader.proofs.machine.read.Goals as goal
 

@@ -2,7 +2,8 @@ use Rattle.std.proofs.Common.{◌≡◌, sym, ap, ◌∙◌, arith, ℕ, pos, ne
 use Rattle.std.proofs.lemmas.Int.{ints}
 use Rattle.std.proofs.lemmas.List.{take_all}
 use Rattle.std.proofs.lemmas.Bool.{cond-true, cond-false}
-use Rattle.cql_reader.specs.Lexis.{decimal, first_byte, number_of, capped}
+use Rattle.cql_reader.specs.Lexis.{decimal, first_byte, number_of}
+use Rattle.cql_reader.specs.Scanning.{capped}
 use Rattle.cql_reader.proofs.Ranges.{capped_negative, capped_positive}
 use Rattle.cql_reader.proofs.numbers.number_in.Goals as goal
 

@@ -1,7 +1,7 @@
 use Rattle.std.proofs.Common.{◌≡◌, ◌∙◌, ◌+◌, ◌^◌, suc, sym, ap, subst, arith, length, get_or, slice_index_or, slice_set, List}
 use Rattle.std.specs.List.{All}
 use Rattle.values.specs.declared.resolved.ListItem.TheVariants.{Key}
-use Rattle.values.specs.Value.{IsAnswerValue}
+use Rattle.values.specs.Ranges.{IsAnswerValue}
 use Rattle.group.specs.Cells.{TallyState, partly, TallyRoom}
 use Rattle.group.specs.Batches.{numbers_read, tally_rows}
 use Rattle.group.proofs.TallyLemmas.{partly-at, partly-more, length-partly, below_more}

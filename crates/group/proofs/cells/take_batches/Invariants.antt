@@ -1,6 +1,6 @@
 use Rattle.std.proofs.Common.{◌≡◌, ◌<◌, ℕ, get_or}
 use Rattle.std.specs.List.{All}
-use Rattle.values.specs.Value.{IsAnswerValue}
+use Rattle.values.specs.Ranges.{IsAnswerValue}
 use Rattle.values.specs.declared.resolved.ListItem.TheVariants.{Key}
 use Rattle.group.specs.Cells.{partly}
 use Rattle.group.specs.Batches.{numbers_read, tally_rows}

@@ -3,7 +3,7 @@ use Rattle.std.specs.List.{All}
 use Rattle.std.proofs.lemmas.List.{get_or_default, set-get_or}
 use Rattle.values.specs.Row.{Row}
 use Rattle.values.specs.declared.resolved.ListItem.TheVariants.{Key}
-use Rattle.values.specs.Value.{IsAnswerValue}
+use Rattle.values.specs.Ranges.{IsAnswerValue}
 use Rattle.group.specs.Batches.{row_in}
 use Rattle.group.specs.Cells.{TallyState, tally_by, tally_after, tally_zero, partly, TallyRoom, keeps, number_of}
 use Rattle.group.proofs.TallyLemmas.{partly-at, partly-more, length-partly, below_more}

@@ -1,5 +1,5 @@
 use Rattle.std.proofs.Common.{◌≡◌, ◌<◌, ℕ, true, false, get_or}
-use Rattle.values.specs.Value.{IsAnswerValue}
+use Rattle.values.specs.Ranges.{IsAnswerValue}
 use Rattle.values.specs.declared.resolved.ListItem.TheVariants.{Key}
 use Rattle.group.specs.Batches.{row_in}
 use Rattle.group.specs.Cells.{tally_after, tally_zero, partly, number_of}

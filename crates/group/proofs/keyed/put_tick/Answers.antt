@@ -1,6 +1,7 @@
 use Rattle.std.proofs.Common.{◌∙◌, ◌++◌, ◌∷◌, [], ap, sym, subst, map, Bool, List}
 use Rattle.values.specs.Row.{Row}
-use Rattle.op_queue.specs.Entries.{Entry, IsForward, RowAt, TickAt}
+use Rattle.op_queue.specs.Entries.{Entry, RowAt, TickAt}
+use Rattle.op_queue.specs.Forward.{IsForward}
 use Rattle.op_queue.specs.Flat.{FlatState}
 use Rattle.op_queue.specs.Queues.{HasGrown, Waiting}
 use Rattle.op_queue.specs.declared.item.Item.TheVariants.{Tick}

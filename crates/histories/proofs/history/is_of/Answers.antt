@@ -1,6 +1,6 @@
 use Rattle.std.proofs.Common.{◌≡◌, ◌≤◌, ◌+◌, ◌-◌, ◌∙◌, sym, length, rules, arith, None, Some}
 use Rattle.std.proofs.lemmas.Option.{slice_get_past}
-use Rattle.histories.specs.Histories.{IsOf}
+use Rattle.histories.specs.Receipts.{IsOf}
 use Rattle.histories.proofs.history.is_of.Goals as goal
 
 pub returns-in-None : goal.returns-in-None

@@ -1,6 +1,7 @@
 use Rattle.std.proofs.Common.{rules, ◌≡◌, ◌<◌, All, length, sym, subst, get_or}
-use Rattle.histories.specs.Histories.{IsOf}
-use Rattle.hub.specs.Ledgers.{account_in, ledger_in, numbers_of}
+use Rattle.histories.specs.Receipts.{IsOf}
+use Rattle.hub.specs.Ledgers.{numbers_of}
+use Rattle.hub.specs.LedgerViews.{account_in, ledger_in}
 use Rattle.hub.proofs.LedgerLemmas.{seen_at}
 use Rattle.hub.proofs.SettleLemmas.{agreed, agreed_of}
 use Rattle.hub.proofs.audit.agrees.Goals as goal

@@ -1,6 +1,6 @@
 use Rattle.std.proofs.Common.{rules, ◌≡◌, ◌<◌, ◌==◌, ℕ, count_by, length, refl, arith}
 use Rattle.hub.specs.Seats.{PlainSeat}
-use Rattle.hub.specs.Ledgers.{ledger_in}
+use Rattle.hub.specs.LedgerViews.{ledger_in}
 use Rattle.hub.proofs.AuditLemmas.{accounted, estranged_not}
 use Rattle.hub.proofs.audit.is_accounted.Goals as goal
 

@@ -1,7 +1,7 @@
 use Rattle.std.proofs.Common.{◌∙◌, ap}
 use Rattle.names.specs.Views.{merged}
 use Rattle.names.proofs.Founds.{find_in_step}
-use Rattle.cql_reader.specs.Views.{name_of}
+use Rattle.cql_reader.specs.Names.{name_of}
 use Rattle.names.proofs.matching.find_in.Goals as goal
 
 pub loop-i-preserved : goal.loop-i-preserved

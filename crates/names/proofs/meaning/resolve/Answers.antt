@@ -12,7 +12,7 @@ use Rattle.names.specs.Faults.{first_fault}
 use Rattle.names.specs.Resolved as spec
 use Rattle.names.specs.Views as views
 use Rattle.names.proofs.Tables.{meaning_is, count_is, windows_count}
-use Rattle.names.proofs.Accepted.{Accepted, accepted, narrow, slides, within, known, few}
+use Rattle.names.proofs.Accepted.{Accepted, accepted, narrow, within, known, few}
 use Rattle.names.proofs.meaning.resolve.Goals as goal
 
 pub named_of-requires-clause-sources : goal.named_of-requires-clause-sources
@@ -59,10 +59,6 @@ returns-clause-few c most each =
     let q = query_of c.args.query.now in
     subst (λ (vs : List ℕ). sum vs ≤ most * length c.args.query.now.sources.items) (sym (widths_are c))
     (subst (λ (n : ℕ). sum (spec.widths q c.args.catalog.now) ≤ most * n) (length-map c.args.query.now.sources.items source_of) (few most c.args.catalog.now each q.sources))
-
-pub returns-clause-slides : goal.returns-clause-slides
-returns-clause-slides c good =
-    slides c.in_ok-named_of.field-0.meaning.windows.items c.args.catalog.now (query_of c.args.query.now).sources good.windows (windows_are c)
 
 pub returns-clause-within : goal.returns-clause-within
 returns-clause-within c =

@@ -1,6 +1,7 @@
 use Rattle.std.proofs.Common.{subst}
 use Rattle.reference.specs.World.{World, empty}
-use Rattle.programs.specs.Run.{Answers, MayRunOut}
+use Rattle.programs.specs.Run.{Answers}
+use Rattle.programs.specs.Ends.{MayRunOut}
 use Rattle.programs.proofs.Outcomes.{answers_wider}
 use Rattle.programs.proofs.body.run_made.Goals as goal
 

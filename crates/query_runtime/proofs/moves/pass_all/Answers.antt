@@ -1,8 +1,8 @@
 use Rattle.std.proofs.Common.{◌≡◌, ◌<◌, ◌≤◌, ◌∙◌, ℕ, arith, subst, sym, ⊎_elim}
 use Rattle.std.proofs.lemmas.Bool.{cases_lt}
-use Rattle.operators.specs.Operators.{PlainOperator}
+use Rattle.operators.specs.Ready.{PlainOperator}
 use Rattle.operators.specs.Passing.{IsPassed, IsQuiet}
-use Rattle.laws_queries.specs.Queries.{operator_at}
+use Rattle.laws_queries.specs.Plain.{operator_at}
 use Rattle.query_runtime.proofs.moves.pass_all.Goals as goal
 
 pub pass_at-requires-clause-quiet : goal.pass_at-requires-clause-quiet

@@ -1,7 +1,7 @@
 -- The operators that were reached have passed, and the others are as they were.
 use Rattle.std.proofs.Common.{◌≡◌, ◌<◌, ◌≤◌, ℕ, length}
 use Rattle.operators.specs.Passing.{IsPassed}
-use Rattle.laws_queries.specs.Queries.{operator_at}
+use Rattle.laws_queries.specs.Plain.{operator_at}
 use Rattle.query_runtime.proofs.moves.pass_all.Given as goal
 
 abbrev pub invariant-loop-number : goal.invariant-loop-number

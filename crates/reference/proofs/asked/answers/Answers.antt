@@ -4,19 +4,12 @@ use Rattle.values.specs.Answers as cql
 use Rattle.reference.specs.Views.{inputs_of}
 use Rattle.cql_reader.specs.Views.{query_of}
 use Rattle.names.specs.Resolved.{resolved}
-use Rattle.reference.proofs.InputLemmas.{if_ok}
-use Rattle.reference.proofs.SoundLemmas.{all_slides}
 use Rattle.reference.proofs.asked.answers.Goals as goal
 
-pub returns : goal.returns
-returns c =
+pub returns-clause-answers : goal.returns-clause-answers
+returns-clause-answers c =
     let inputs = inputs_of c.args.inputs.now in
-    if_ok
-    (λ v h. h
-    ∙ ap (λ r. cql.answers r c.first_open-first.result c.first_open-until.result inputs) c.in-Ok.ensures.meaning
+    c.in_ok-answers.ensures
+    ∙ ap (λ r. cql.answers r c.first_open-first.result c.first_open-until.result inputs) c.in_ok-named.ensures.meaning
     ∙ ap (λ (n : ℕ). cql.answers (resolved (query_of c.args.query.now) c.args.catalog.now) n c.first_open-until.result inputs) (rw (to_z-of_z w64 c.args.base c.ranges.base) at c.first_open-first.ensures)
-    ∙ ap (λ (n : ℕ). cql.answers (resolved (query_of c.args.query.now) c.args.catalog.now) (nat_abs (c.args.base +ℤ pos 1)) n inputs) (rw (to_z-of_z w64 c.args.upto c.ranges.upto) at c.first_open-until.ensures))
-    c.evaluate.result c.evaluate.ensures
-
-pub evaluate-requires-clause-slides : goal.evaluate-requires-clause-slides
-evaluate-requires-clause-slides c = all_slides c.in-Ok.named.meaning.windows.items (c.in-Ok.ensures.slides c.requires.formed)
+    ∙ ap (λ (n : ℕ). cql.answers (resolved (query_of c.args.query.now) c.args.catalog.now) (nat_abs (c.args.base +ℤ pos 1)) n inputs) (rw (to_z-of_z w64 c.args.upto c.ranges.upto) at c.first_open-until.ensures)

@@ -1,6 +1,6 @@
 use Rattle.cql_reader.specs.Views.{query_of}
 use Rattle.reference.proofs.WidthLemmas.{found_widths}
-use Rattle.cql_reader.specs.Reading.{reading}
+use Rattle.cql_reader.specs.Judging.{reading}
 use Rattle.std.specs.Option.{option_copied}
 use Rattle.plan.specs.Chart.{given_by}
 use Rattle.reference.proofs.finding.find_plan.Goals as goal

@@ -20,6 +20,3 @@ returns-in-Err-clause-finds c =
 pub returns-in-Ok-clause-sources : goal.returns-in-Ok-clause-sources
 returns-in-Ok-clause-sources c =
     c.in-Ok.ensures.counts ∙ sym (streams_count c.args.catalog.now c.args.query.now c.in-Ok.plan.streams.items c.in-Ok.ensures.streams)
-
-pub returns-in-Ok-clause-slides : goal.returns-in-Ok-clause-slides
-returns-in-Ok-clause-slides c = c.in-Ok.ensures.slides c.requires.formed

@@ -1,5 +1,6 @@
 use Rattle.std.proofs.Common.{◌≡◌, ◌*◌, ◌++◌, length, drop}
-use Rattle.values.specs.Window.{input_of, plain, numbered}
+use Rattle.values.specs.Window.{input_of, numbered}
+use Rattle.values.specs.Plain.{plain}
 use Rattle.reference.specs.Kept.{kept_in}
 use Rattle.reference.specs.Views.{pairs_of}
 use Rattle.reference.proofs.stream.copy_input.Given as goal

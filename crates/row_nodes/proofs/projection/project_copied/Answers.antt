@@ -1,6 +1,7 @@
 use Rattle.std.proofs.Common.{◌++◌, ap, map, subst, sym, List}
 use Rattle.values.specs.Row.{Row}
-use Rattle.op_queue.specs.Entries.{Entry, IsForward, RowAt}
+use Rattle.op_queue.specs.Entries.{Entry, RowAt}
+use Rattle.op_queue.specs.Forward.{IsForward}
 use Rattle.op_queue.specs.declared.item.Item.TheVariants.{Rows}
 use Rattle.op_queue.proofs.GainLemmas.{gained-item, gained-same}
 use Rattle.row_nodes.proofs.FrontLemmas.{batch_left}

@@ -1,5 +1,6 @@
 use Rattle.std.proofs.Common.{◌++◌, refl, sym, subst, List}
-use Rattle.op_queue.specs.Entries.{Entry, IsForward}
+use Rattle.op_queue.specs.Entries.{Entry}
+use Rattle.op_queue.specs.Forward.{IsForward}
 use Rattle.op_queue.specs.declared.item.Item.TheVariants.{Rows, Tick}
 use Rattle.op_queue.proofs.GainLemmas.{gained-none, gained-same}
 use Rattle.values.specs.Row.{Row}

@@ -1,6 +1,7 @@
 use Rattle.std.proofs.Common.{◌++◌, subst, sym, List}
 use Rattle.values.specs.Row.{Row}
-use Rattle.op_queue.specs.Entries.{Entry, IsForward}
+use Rattle.op_queue.specs.Entries.{Entry}
+use Rattle.op_queue.specs.Forward.{IsForward}
 use Rattle.op_queue.specs.declared.item.Item.TheVariants.{Rows}
 use Rattle.row_nodes.proofs.FrontLemmas.{select_moved_if, selected_first}
 use Rattle.row_nodes.proofs.selection.select_whole.Goals as goal

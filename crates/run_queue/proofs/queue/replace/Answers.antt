@@ -1,7 +1,7 @@
 use Rattle.std.proofs.Common.{◌∙◌, ap, sym, subst}
 use Rattle.std.specs.List.Sorted.{IsStrictlySortedBy}
 use Rattle.run_queue.specs.Places.{in_order, place_cmp, IsFound, IsMissing}
-use Rattle.run_queue.specs.Slots.{put}
+use Rattle.run_queue.specs.Changes.{put}
 use Rattle.run_queue.proofs.KeptLemmas.{put_found, put_missing}
 use Rattle.run_queue.proofs.PlaceLemmas.{insert_ordered, remove_ordered}
 use Rattle.run_queue.proofs.queue.replace.Goals as goal

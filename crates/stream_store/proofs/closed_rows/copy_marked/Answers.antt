@@ -1,6 +1,6 @@
 use Rattle.std.proofs.Common.{◌∙◌, ◌++◌, ap, subst, sym, List}
 use Rattle.values.specs.Window.{Element}
-use Rattle.op_queue.specs.Logs.{IsClosing}
+use Rattle.op_queue.specs.Closings.{IsClosing}
 use Rattle.op_queue.specs.Tables.{arrived}
 use Rattle.stream_store.proofs.ArrivalLemmas.{given_lists}
 use Rattle.stream_store.proofs.CopyLemmas.{closing_chosen, wide_chosen}

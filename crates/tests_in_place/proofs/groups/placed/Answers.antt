@@ -1,6 +1,7 @@
 use Rattle.std.proofs.Common.{◌++◌, ap, subst, sym, List}
 use Rattle.values.specs.Row.{Row}
-use Rattle.op_queue.specs.Entries.{Entry, IsForward}
+use Rattle.op_queue.specs.Entries.{Entry}
+use Rattle.op_queue.specs.Forward.{IsForward}
 use Rattle.group.specs.Turns.{near, out}
 use Rattle.group.proofs.RunLemmas.{out_forward}
 use Rattle.tests_in_place.proofs.groups.placed.Goals as goal

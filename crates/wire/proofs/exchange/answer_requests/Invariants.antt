@@ -1,5 +1,5 @@
 use Rattle.std.proofs.Common.{◌≡◌, ℕ, List, true}
-use Rattle.wire.specs.Exchanges.{Leads}
+use Rattle.wire.specs.Answering.{Leads}
 use Rattle.wire.specs.Held.{ahead, work}
 use Rattle.wire.specs.Paged.{Wrote}
 use Rattle.wire.proofs.Exchanges.{Progress}

@@ -1,6 +1,6 @@
 -- Up to here no group had a line feed.
 use Rattle.std.proofs.Common.{◌≤◌, ◌-◌, length}
-use Rattle.wire.specs.Lines.{EachOther}
+use Rattle.wire.specs.Reading.{EachOther}
 use Rattle.wire.proofs.lines.clear_front.Given as goal
 
 abbrev pub invariant-loop-clear : goal.invariant-loop-clear

@@ -1,7 +1,6 @@
 use Rattle.std.proofs.Common.{◌≤◌, None, sym, subst, arith}
 use Rattle.wire.specs.Held.{ahead, work}
-use Rattle.wire.specs.Lines.{Keeps}
-use Rattle.wire.specs.Requests.{SameRequests}
+use Rattle.wire.specs.Reading.{Keeps, SameRequests}
 use Rattle.wire.proofs.Reading.{blank_line, same_same}
 use Rattle.wire.proofs.read.held_request.Goals as goal
 

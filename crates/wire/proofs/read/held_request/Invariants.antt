@@ -1,6 +1,6 @@
 use Rattle.std.proofs.Common.{◌≤◌, ℕ, List, Option}
 use Rattle.wire.specs.Held.{ahead, work}
-use Rattle.wire.specs.Requests.{SameRequests}
+use Rattle.wire.specs.Reading.{SameRequests}
 use Rattle.wire.proofs.read.held_request.Given as goal
 
 abbrev pub invariant-blanks : goal.invariant-blanks

@@ -1,19 +1,12 @@
-use Rattle.std.proofs.Common.{◌++◌, ◌∙◌, ap, sym, codes}
+use Rattle.std.proofs.Common.{◌++◌, ◌∙◌, ap, sym}
 use Rattle.reference.specs.FaultTexts.{fault_text, fault_name, place_text}
-use Rattle.wire.specs.Printed.{line_of, answer_of, operators, error_line}
-use Rattle.wire.proofs.Printing.{writes_both, write_text}
+use Rattle.wire.specs.Printed.{line_of, answer_of, error_line}
+use Rattle.wire.proofs.Printing.{write_text}
 use Rattle.wire.proofs.reply.add_reply.Goals as goal
 
 pub returns-in-Done : goal.returns-in-Done
 unfolding line_of
 returns-in-Done g c = write_text (line_of (answer_of c.args.reply.now)) (sym (ap (λ r. line_of (answer_of r)) c.in-Done.is)) c.add.ensures
-
-pub returns-in-Operators : goal.returns-in-Operators
-unfolding line_of
-returns-in-Operators g c =
-    write_text (line_of (answer_of c.args.reply.now))
-    (ap (λ l. line_of (operators l)) c.deref-in-Operators.ensures.value ∙ sym (ap (λ r. line_of (answer_of r)) c.in-Operators.is))
-    (writes_both {x = codes "{\"ok\":true,\"operators\":["} c.add-in-Operators.ensures (writes_both c.add_operators.ensures c.add-in-Operators-2.ensures))
 
 pub returns-in-Refused : goal.returns-in-Refused
 unfolding line_of fault_text

@@ -1,6 +1,7 @@
 use Rattle.std.proofs.Common.{◌≡◌, ◌+◌, ◌++◌, [], refl, sym, ap, take, to_z, of_z, w64, arith}
 use Rattle.std.proofs.lemmas.Int.{ints, to_z-of_z}
-use Rattle.wire.specs.Printed.{comma_before, row_text, rows_text}
+use Rattle.wire.specs.Printed.{row_text, rows_text}
+use Rattle.wire.specs.Commas.{comma_before}
 use Rattle.wire.proofs.Sinks.{append_nothing}
 use Rattle.wire.proofs.Printing.{writes_both, writes_held, write_text}
 use Rattle.wire.proofs.Listed.{has_item, no_rows, rows_more}

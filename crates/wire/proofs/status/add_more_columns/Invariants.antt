@@ -1,5 +1,5 @@
 use Rattle.std.proofs.Common.{take}
-use Rattle.names.specs.Views.{names_of}
+use Rattle.names.specs.Names.{names_of}
 use Rattle.wire.specs.Paged.{Writes}
 use Rattle.wire.specs.Printed.{after_commas, name_text}
 use Rattle.wire.proofs.status.add_more_columns.Given as goal

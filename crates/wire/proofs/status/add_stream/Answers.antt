@@ -1,8 +1,8 @@
 use Rattle.std.proofs.Common.{◌≡◌, ◌++◌, codes, refl, ap, to_z, of_z, w64, arith}
 use Rattle.std.specs.Fmt.{signed_decimal}
 use Rattle.std.proofs.lemmas.Int.{ints, to_z-of_z}
-use Rattle.cql_reader.specs.Views.{name_of}
-use Rattle.names.specs.Views.{names_of}
+use Rattle.cql_reader.specs.Names.{name_of}
+use Rattle.names.specs.Names.{names_of}
 use Rattle.reference.specs.StatusViews.{stream_status_in}
 use Rattle.wire.specs.Printed.{name_text, stream_status_text, with_commas}
 use Rattle.wire.proofs.Printing.{writes_both, write_text}

@@ -1,5 +1,5 @@
 use Rattle.std.proofs.Common.{All, subst, sym, Option, ℤ, List}
-use Rattle.values.specs.Value.{IsStreamNumber}
+use Rattle.values.specs.Ranges.{IsStreamNumber}
 use Rattle.column.specs.Columns.{IsStreamValue}
 use Rattle.column.proofs.ColumnLemmas.{stream_values, stream_numbers}
 use Rattle.column.proofs.column.Column.is_in_stream_range.Goals as goal

@@ -1,5 +1,5 @@
 use Rattle.std.proofs.Common.{◌∙◌, ap, sym, List, ℤ, All, subst}
-use Rattle.values.specs.Value.{IsAnswerNumber}
+use Rattle.values.specs.Ranges.{IsAnswerNumber}
 use Rattle.column.specs.Columns.{numbers_of}
 use Rattle.column.proofs.ColumnLemmas.{numbers_again, answer_numbers}
 use Rattle.column.proofs.column.Column.numbers.Goals as goal

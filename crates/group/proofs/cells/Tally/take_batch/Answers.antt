@@ -1,7 +1,7 @@
 use Rattle.std.proofs.Common.{◌≡◌, ◌∙◌, Bool, sym, ap, subst, refl}
 use Rattle.std.specs.List.{All}
 use Rattle.std.specs.Result.{OnOk}
-use Rattle.values.specs.Value.{IsAnswerValue}
+use Rattle.values.specs.Ranges.{IsAnswerValue}
 use Rattle.values.specs.declared.resolved.ListItem.{ListItem}
 use Rattle.values.specs.declared.resolved.ListItem.TheVariants.{Key, CountAll, Of}
 use Rattle.group.specs.Cells.{TallyState}

@@ -1,6 +1,6 @@
 use Rattle.std.proofs.Common.{◌∙◌, ℤ, Option, List, sym, subst, arith}
 use Rattle.std.specs.List.{All}
-use Rattle.values.specs.Value.{IsAnswerValue}
+use Rattle.values.specs.Ranges.{IsAnswerValue}
 use Rattle.column.specs.Rows.{width}
 use Rattle.group.specs.Batches.{leaving, fields}
 use Rattle.group.proofs.BatchLemmas.{other_source, past_columns, own_fields, nulls_in_range, nulls_are_nothing}

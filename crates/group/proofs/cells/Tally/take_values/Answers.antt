@@ -1,6 +1,6 @@
 use Rattle.std.proofs.Common.{◌≡◌, ◌∙◌, ◌+◌, ◌^◌, ◌<◌, ℕ, ℤ, Bool, not, false, Option, None, sym, ap, ap₂, subst, length, arith, drop, get_or}
 use Rattle.std.proofs.lemmas.List.{get_or_default}
-use Rattle.values.specs.Value.{IsAnswerValue}
+use Rattle.values.specs.Ranges.{IsAnswerValue}
 use Rattle.column.specs.Bits.{bits}
 use Rattle.column.proofs.BitLemmas.{length-bits, get_or-bits}
 use Rattle.group.specs.Cells.{TallyState, TallyRoom, tally_by}

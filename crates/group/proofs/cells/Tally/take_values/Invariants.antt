@@ -1,5 +1,5 @@
 use Rattle.std.proofs.Common.{◌≡◌, ◌+◌, ◌^◌, ◌<◌, ℕ, None, length, get_or, drop}
-use Rattle.values.specs.Value.{IsAnswerValue}
+use Rattle.values.specs.Ranges.{IsAnswerValue}
 use Rattle.column.specs.Bits.{bits}
 use Rattle.group.specs.Cells.{TallyRoom}
 use Rattle.group.specs.Batches.{tally_values}

@@ -4,7 +4,7 @@ use Rattle.hub.proofs.hub.Hub.wait_ready.Goals as goal
 use Rattle.hub.proofs.hub.Hub.wait_ready.Goals.{in-None, in-Some+then-has_ended}
 
 pub returns-then-has_ready : goal.returns-then-has_ready
-returns-then-has_ready g c = ready_at _ _ c.has_ready.ensures.ready c.if-has_ready.true
+returns-then-has_ready g c = ready_at _ _ c.has_ready.ensures c.if-has_ready.true
 
 pub returns : goal.returns
 returns g c =

@@ -1,6 +1,6 @@
 use Rattle.std.proofs.Common.{◌≡◌, ◌∙◌, ap, map, replicate, ◌++◌, ◌∷◌, [], arith}
 use Rattle.std.proofs.lemmas.List.{map-append, replicate_more}
-use Rattle.hub.specs.Ledgers.{account_in, fresh, ledger_in}
+use Rattle.hub.specs.LedgerViews.{account_in, fresh, ledger_in}
 use Rattle.hub.proofs.LedgerLemmas.{plain}
 use Rattle.hub.proofs.ledger.Ledger.new.Goals as goal
 

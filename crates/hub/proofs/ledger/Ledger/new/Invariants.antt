@@ -1,5 +1,5 @@
 use Rattle.std.proofs.Common.{◌≡◌, map, replicate}
-use Rattle.hub.specs.Ledgers.{account_in, fresh}
+use Rattle.hub.specs.LedgerViews.{account_in, fresh}
 use Rattle.hub.proofs.ledger.Ledger.new.Given as goal
 
 abbrev pub invariant-loop : goal.invariant-loop

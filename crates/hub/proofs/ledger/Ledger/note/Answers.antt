@@ -1,5 +1,5 @@
 use Rattle.std.proofs.Common.{rules, ◌<◌, ◌≤◌, length}
-use Rattle.hub.specs.Ledgers.{ledger_in}
+use Rattle.hub.specs.LedgerViews.{ledger_in}
 use Rattle.hub.proofs.LedgerLemmas.{estranged, pushed}
 use Rattle.hub.proofs.ledger.Ledger.note.Goals as goal
 

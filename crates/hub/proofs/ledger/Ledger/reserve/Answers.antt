@@ -1,6 +1,6 @@
 use Rattle.std.proofs.Common.{rules, ◌≡◌, ◌<◌, ◌≤◌, length, arith, sym, ◌∙◌, None, Some}
 use Rattle.std.proofs.lemmas.Option.{slice_get_past}
-use Rattle.hub.specs.Ledgers.{ledger_in}
+use Rattle.hub.specs.LedgerViews.{ledger_in}
 use Rattle.hub.specs.declared.ledger.Account.{Account}
 use Rattle.hub.proofs.LedgerLemmas.{roomier, room_at}
 use Rattle.hub.proofs.ledger.Ledger.reserve.Goals as goal

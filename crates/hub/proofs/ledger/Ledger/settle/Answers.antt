@@ -1,4 +1,4 @@
-use Rattle.hub.specs.Ledgers.{ledger_in}
+use Rattle.hub.specs.LedgerViews.{ledger_in}
 use Rattle.hub.proofs.LedgerLemmas.{emptied}
 use Rattle.hub.proofs.ledger.Ledger.settle.Goals as goal
 

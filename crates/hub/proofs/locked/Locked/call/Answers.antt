@@ -3,7 +3,7 @@ use Rattle.leases.specs.Openings.{opening_in}
 use Rattle.leases.specs.Shown.{engine_in}
 use Rattle.hub.proofs.AcceptingLemmas.{accepting, entry_is, longer, receipt_is}
 use Rattle.hub.specs.Calls.{Answered}
-use Rattle.hub.specs.Ledgers.{ledger_in}
+use Rattle.hub.specs.LedgerViews.{ledger_in}
 use Rattle.hub.specs.Steps.{engine_at, next_number}
 use Rattle.hub.proofs.KeepingLemmas.{many_next, noted_is, noted_next}
 use Rattle.hub.proofs.ReplayLemmas.{fits_next, held_next, replays_next, rising_next}

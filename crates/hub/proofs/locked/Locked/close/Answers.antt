@@ -1,6 +1,6 @@
 use Rattle.std.proofs.Common.{◌<◌, ◌^◌, ap, arith, refl, subst, sym}
 use Rattle.hub.specs.Audits.{IsAccounted, alone}
-use Rattle.hub.specs.Ledgers.{ledger_in}
+use Rattle.hub.specs.LedgerViews.{ledger_in}
 use Rattle.hub.specs.Seats.{IsAudited}
 use Rattle.hub.proofs.AuditLemmas.{alone_fits, alone_is, audited_as_ever, settled_by_all}
 use Rattle.hub.proofs.locked.Locked.close.Goals as goal

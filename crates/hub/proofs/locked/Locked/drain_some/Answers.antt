@@ -1,6 +1,7 @@
 use Rattle.std.proofs.Common.{refl, subst}
-use Rattle.hub.specs.Ledgers.{ledger_in}
-use Rattle.hub.specs.Steps.{DrainsSome, PlainLocked, engine_at, with_engine}
+use Rattle.hub.specs.LedgerViews.{ledger_in}
+use Rattle.hub.specs.Steps.{PlainLocked, engine_at, with_engine}
+use Rattle.hub.specs.Workers.{DrainsSome}
 use Rattle.hub.proofs.ReadyLemmas.{would_idle}
 use Rattle.hub.proofs.locked.Locked.drain_some.Goals as goal
 

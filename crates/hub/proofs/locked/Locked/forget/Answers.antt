@@ -3,7 +3,8 @@ use Rattle.leases.specs.Openings.{opening_in}
 use Rattle.leases.specs.Shown.{engine_in}
 use Rattle.laws_engine.specs.Openings.{forgotten}
 use Rattle.histories.specs.Histories.{Replays}
-use Rattle.hub.specs.Ledgers.{IsLedger, ledger_in}
+use Rattle.hub.specs.Ledgers.{IsLedger}
+use Rattle.hub.specs.LedgerViews.{ledger_in}
 use Rattle.hub.proofs.KeepingLemmas.{forgotten_kept}
 use Rattle.hub.proofs.OpeningLemmas.{opens_still, reached_further}
 use Rattle.hub.proofs.locked.Locked.forget.Goals as goal

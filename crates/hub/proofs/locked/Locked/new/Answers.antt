@@ -3,7 +3,8 @@ use Rattle.std.proofs.lemmas.List.{length-replicate}
 use Rattle.leases.specs.Openings.{opening_in}
 use Rattle.leases.specs.Shown.{engine_in}
 use Rattle.histories.specs.Histories.{Replays}
-use Rattle.hub.specs.Ledgers.{IsLedger, PlainLedger, fresh, ledger_in}
+use Rattle.hub.specs.Ledgers.{IsLedger, PlainLedger}
+use Rattle.hub.specs.LedgerViews.{fresh, ledger_in}
 use Rattle.hub.proofs.KeepingLemmas.{fresh_kept}
 use Rattle.hub.proofs.OpeningLemmas.{reached_nothing}
 use Rattle.hub.proofs.locked.Locked.new.Goals as goal

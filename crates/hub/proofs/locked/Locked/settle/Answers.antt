@@ -1,5 +1,6 @@
 use Rattle.std.proofs.Common.{rules, ◌≡◌, ◌∙◌, ◌+◌, ap, arith, length, refl, subst, sym}
-use Rattle.hub.specs.Ledgers.{Agrees, IsLedger, PlainLedger, cleared_of, ledger_in, settled_of}
+use Rattle.hub.specs.Ledgers.{Agrees, IsLedger, PlainLedger, cleared_of, settled_of}
+use Rattle.hub.specs.LedgerViews.{ledger_in}
 use Rattle.hub.specs.Seats.{own_reach}
 use Rattle.hub.proofs.KeepingLemmas.{by_number_fits, cleared_is, cleared_many, count_fits, seat_within, settled_as, settled_kept}
 use Rattle.hub.proofs.locked.Locked.settle.Goals as goal

@@ -1,6 +1,6 @@
 -- The number is of an operator of the query, and the wire of each but the last leads to another.
 use Rattle.std.proofs.Common.{◌≡◌, ◌<◌, ◌+◌, length, sym, ◌∙◌, subst, arith}
-use Rattle.laws_queries.specs.Queries.{PlainQuery}
+use Rattle.laws_queries.specs.Plain.{PlainQuery}
 use Rattle.physical_plans.specs.declared.wiring.Wire.{Wire}
 use Rattle.laws_engine.proofs.BackLemmas.{same_plain}
 use Rattle.leases.specs.Asked.{HasOperatorAt}

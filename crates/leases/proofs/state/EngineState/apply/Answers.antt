@@ -2,9 +2,10 @@
 use Rattle.std.proofs.Common.{◌≡◌, ◌==◌, not, filter, List, map, set, ap, ◌∙◌, get_or}
 use Rattle.std.proofs.lemmas.List.{set-set}
 use Rattle.turn.specs.declared.parts.Parts.{Parts}
-use Rattle.run_queue.specs.Slots.{without_query}
+use Rattle.run_queue.specs.Changes.{without_query}
 use Rattle.laws_engine.specs.Calls.{broken_at, of_others}
-use Rattle.laws_engine.specs.Engines.{Broken, Dropped, PlainRemains, Running, remains_at, upto_at}
+use Rattle.laws_engine.specs.Engines.{Broken, Dropped, PlainRemains, Running, remains_at}
+use Rattle.laws_engine.specs.Good.{upto_at}
 use Rattle.leases.specs.Shown.{engine_in}
 use Rattle.leases.specs.Views.{remains_of}
 use Rattle.leases.specs.declared.reader.WindowReader.{WindowReader}
@@ -56,4 +57,4 @@ pub returns-in-Err-clause-forgets : goal.returns-in-Err-clause-forgets
 returns-in-Err-clause-forgets c =
     let same : c.parts.inside.0.1.0.query ≡ c.args.parts.node.query = ap (λ (d : Parts). d.node.query) c.parts.view_is in
     let f = c.break_query.ensures.forgets in
-    record { undropped = f.undropped; readers = f.readers ∙ ap (λ n. filter (λ (r : WindowReader). not (r.query == n)) c.args.self.now.readers.items) same; leases = f.leases }
+    record { undropped = f.undropped; readers = f.readers ∙ ap (λ n. filter (λ (r : WindowReader). not (r.query == n)) c.args.self.now.readers) same; leases = f.leases }

@@ -1,7 +1,8 @@
 use Rattle.std.proofs.Common.{◌≡◌, ◌<◌, ◌==◌, false, not, filter, None, Some, length, map, set, get_or, string_bytes, refl, sym, ap, ◌∙◌, subst, arith}
 use Rattle.std.specs.Prelude.{slice_get}
 use Rattle.laws_engine.specs.Bounds.{HaveFewClosed}
-use Rattle.laws_engine.specs.Engines.{Dropped, GoodEngine, IsIn, PlainEngine, world_of}
+use Rattle.laws_engine.specs.Engines.{Dropped, PlainEngine, world_of}
+use Rattle.laws_engine.specs.Good.{GoodEngine, IsIn}
 use Rattle.laws_engine.proofs.InstantLemmas.{few_closed_stand}
 use Rattle.laws_engine.proofs.DropLemmas.{drop_good}
 use Rattle.laws_engine.proofs.SlotLemmas.{in_filter}

@@ -2,7 +2,7 @@ use Rattle.std.proofs.Common.{◌≡◌, Ok, subst}
 use Rattle.std.specs.Prelude.{IfOk}
 use Rattle.std.specs.Option.{option_copied}
 use Rattle.cql_reader.specs.Query as syntax
-use Rattle.cql_reader.specs.Reading.{reading}
+use Rattle.cql_reader.specs.Judging.{reading}
 use Rattle.names.specs.Resolved.{widths}
 use Rattle.plan.specs.Chart.{given_by}
 use Rattle.reference.specs.Commands.{found_of}

@@ -17,7 +17,7 @@ restart-requires c = subst₂ AreMarkable (sym c.deref_mut.ensures.value) (sym c
 
 pub returns-clause-ok : goal.returns-clause-ok
 returns-clause-ok c =
-    ap engine_in c.count_left.ensures
+    ap engine_in c.count_left.ensures.same
     ∙ ap (λ rs. engine_of c.keep_rows.new.streams rs c.args.self.now.remains.items c.args.self.now.leases.items c.args.self.now.next c.args.self.now.slots)
     (with_items_is c.args.self.now.registered c.restart.new.registered (c.restart.auto.registered ∙ ap (λ l. length l) c.deref_mut.ensures.value ∙ sym c.args.self.now.registered.ok.0))
     ∙ forgets c.args.self.now c.keep_rows.new.streams c.restart.new.registered
@@ -27,4 +27,4 @@ returns-clause-ok c =
 pub returns-clause-sound : goal.returns-clause-sound
 returns-clause-sound c =
     forgotten_sound c.args.self.now _ c.requires (forgotten_closed c.args.self.now c.requires) (returns-clause-ok c)
-    (ap (λ (s : EngineState). s.leases.items) c.count_left.ensures) (ap (λ (s : EngineState). s.next) c.count_left.ensures) (ap (λ (s : EngineState). s.undropped) c.count_left.ensures) (ap (λ (s : EngineState). s.readers.items) c.count_left.ensures)
+    (ap (λ (s : EngineState). s.leases.items) c.count_left.ensures.same) (ap (λ (s : EngineState). s.next) c.count_left.ensures.same) (ap (λ (s : EngineState). s.undropped) c.count_left.ensures.same) (ap (λ (s : EngineState). s.readers) c.count_left.ensures.same)

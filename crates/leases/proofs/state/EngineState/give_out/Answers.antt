@@ -1,5 +1,5 @@
 use Rattle.std.proofs.Common.{None, ◌≡◌, ◌+◌, ◌∷◌, [], ◌++◌, refl, ap, ◌∙◌}
-use Rattle.run_queue.specs.Slots.{changed}
+use Rattle.run_queue.specs.Changes.{changed}
 use Rattle.leases.proofs.LeaseLemmas.{HasGone, first_leases, goes_out, sound_out}
 use Rattle.leases.specs.Shown.{engine_in}
 use Rattle.turn.specs.declared.turns.Turn.{Turn}

@@ -2,7 +2,8 @@ use Rattle.std.proofs.Common.{◌≡◌, ◌∙◌, ap, map, refl, rules, subst,
 use Rattle.laws_queries.specs.Machines.{IsMachine}
 use Rattle.laws_queries.specs.Registrations.{HaveColumnNames}
 use Rattle.laws_engine.specs.Bounds.{HaveFewClosed}
-use Rattle.laws_engine.specs.Engines.{GoodEngine, IsIn, PlainEngine}
+use Rattle.laws_engine.specs.Engines.{PlainEngine}
+use Rattle.laws_engine.specs.Good.{GoodEngine, IsIn}
 use Rattle.leases.specs.Readers.{readers_of}
 use Rattle.leases.specs.Sound.{is_gone}
 use Rattle.leases.specs.Undropped.{undropped_of}
@@ -27,5 +28,5 @@ returns-clause-sound c =
       gone = subst (λ (e : PlainEngine). map (λ q. q.is_dropped) e.machine.queries ≡ map is_gone e.queries) (sym is) refl;
       columns = subst (λ (e : PlainEngine). HaveColumnNames e.machine) (sym is) (search rules);
       closed = subst (λ (e : PlainEngine). HaveFewClosed e.machine) (sym is) (record { streams = tt; queries = tt });
-      readers = c.new-5.ensures.items ∙ ap readers_of (sym is);
+      readers = c.new-5.ensures ∙ ap readers_of (sym is);
     }

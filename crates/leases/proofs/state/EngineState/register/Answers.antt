@@ -3,7 +3,7 @@ use Rattle.reference.specs.Commands.{place_at}
 use Rattle.reference.specs.Machine.{Registered, first_for}
 use Rattle.reference.specs.Opening.{all_instants}
 use Rattle.laws_engine.specs.Calls.{registered}
-use Rattle.laws_engine.specs.Engines.{GoodEngine}
+use Rattle.laws_engine.specs.Good.{GoodEngine}
 use Rattle.laws_engine.specs.Accepted.{IsBegun, newest}
 use Rattle.laws_engine.proofs.InstantLemmas.{first_few}
 use Rattle.leases.specs.Shown.{engine_in}

@@ -7,7 +7,7 @@ use Rattle.leases.proofs.state.EngineState.stop.Goals as goal
 pub returns : goal.returns
 returns c = record {
   leases = filter_same _ (λ (g : Turn). not (g.node.query == c.args.query)) _ (λ x b f h. search rules) _ _ c.retain.ensures.filtered;
-  readers = c.forget_readers.ensures;
+  readers = c.forget.ensures;
   slots = c.drop_query.ensures;
   rest = refl;
 }

@@ -1,7 +1,7 @@
 -- The one above stands as it did before the first was told.
 use Rattle.std.proofs.Common.{◌≢◌, MatchOption, Option, sym, subst}
 use Rattle.std.specs.Prelude.{⊤}
-use Rattle.run_queue.specs.Slots.{Stands}
+use Rattle.run_queue.specs.Changes.{Stands}
 use Rattle.run_queue.specs.declared.slots.Slot.{Slot}
 use Rattle.run_queue.proofs.StandLemmas.{stands_on}
 use Rattle.leases.proofs.state.EngineState.update_slots.Goals as goal

@@ -1,5 +1,5 @@
 use Rattle.std.proofs.Common.{◌≡◌, ◌∙◌, ◌+◌, suc, ap, refl, arith}
-use Rattle.run_queue.specs.Slots.{put}
+use Rattle.run_queue.specs.Changes.{put}
 use Rattle.leases.specs.Registering.{with_first}
 use Rattle.leases.proofs.RegisterLemmas.{left_again}
 use Rattle.leases.proofs.state.register.put_slots.Goals as goal

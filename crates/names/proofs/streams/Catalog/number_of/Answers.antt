@@ -1,6 +1,6 @@
 use Rattle.std.proofs.Common.{◌∙◌, List, sym, ap, position}
 use Rattle.std.specs.Str.{bytes_eq}
-use Rattle.cql_reader.specs.Views.{name_of}
+use Rattle.cql_reader.specs.Names.{name_of}
 use Rattle.names.specs.Catalog.{Stream, number_in}
 use Rattle.names.specs.Views.{stream_of}
 use Rattle.names.specs.declared.streams.Declared.{Declared}

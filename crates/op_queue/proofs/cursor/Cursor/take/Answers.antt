@@ -1,5 +1,5 @@
 use Rattle.std.proofs.Common.{◌∙◌, ap, arith, drop}
-use Rattle.op_queue.specs.Cursors.{cursor_entries}
+use Rattle.op_queue.specs.Logs.{cursor_entries}
 use Rattle.op_queue.proofs.TakeLemmas.{front_part-few}
 use Rattle.op_queue.proofs.cursor.Cursor.take.Goals as goal
 

@@ -1,6 +1,7 @@
 use Rattle.std.proofs.Common.{◌+◌, ap, length, nat_le, slice_range, sym, ◌∙◌}
 use Rattle.std.specs.List.{filter}
-use Rattle.op_queue.specs.Logs.{Closed, is_waiting}
+use Rattle.op_queue.specs.Logs.{Closed}
+use Rattle.op_queue.specs.Closings.{is_waiting}
 use Rattle.op_queue.specs.Tables.{lists}
 use Rattle.op_queue.proofs.PlaceLemmas.{IsRising-instants, length-waiting}
 use Rattle.op_queue.proofs.log.Log.count_later.Goals as goal

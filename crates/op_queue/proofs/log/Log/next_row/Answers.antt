@@ -1,7 +1,8 @@
 use Rattle.std.proofs.Common.{◌∙◌, ◌<◌, ◌≤◌, ℕ, arith, get_or, subst, ⊎_elim}
 use Rattle.std.proofs.lemmas.Bool.{cases_lt}
 use Rattle.std.proofs.lemmas.Grind.{get_or_default_zero}
-use Rattle.op_queue.specs.Logs.{Closed, HasNoRows}
+use Rattle.op_queue.specs.Logs.{Closed}
+use Rattle.op_queue.specs.Closings.{HasNoRows}
 use Rattle.op_queue.specs.Tables.{lists}
 use Rattle.op_queue.proofs.ClearLemmas.{none_shown}
 use Rattle.op_queue.proofs.PlaceLemmas.{IsRising-instants}

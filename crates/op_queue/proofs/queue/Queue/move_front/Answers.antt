@@ -1,6 +1,7 @@
 use Rattle.std.proofs.Common.{◌∙◌, ◌++◌, List, ap, arith, length, map, subst, sym}
 use Rattle.values.specs.Row.{Row}
-use Rattle.op_queue.specs.Entries.{Entry, IsForward, RowAt}
+use Rattle.op_queue.specs.Entries.{Entry, RowAt}
+use Rattle.op_queue.specs.Forward.{IsForward}
 use Rattle.op_queue.specs.declared.queue.Piece.TheVariants.{Rows}
 use Rattle.op_queue.proofs.MoveLemmas.{moved_none, moved_some, sized_chosen, sized_dropped, sized_queue}
 use Rattle.op_queue.proofs.PieceLemmas.{IsQueue-push, length-queue_push, queue_entries-push}

@@ -1,6 +1,6 @@
 use Rattle.std.proofs.Common.{subst}
 use Rattle.operators.proofs.KindLemmas.{near_fits}
-use Rattle.operators.specs.Operators.{PlainOperator}
+use Rattle.operators.specs.Ready.{PlainOperator}
 use Rattle.operators.specs.States.{FitsState}
 use Rattle.operators.proofs.running.Operator.near.Goals as goal
 

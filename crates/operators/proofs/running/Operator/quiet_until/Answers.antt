@@ -1,5 +1,5 @@
 use Rattle.std.proofs.Common.{◌∙◌, arith, subst}
-use Rattle.operators.specs.Inboxes.{entries_in}
+use Rattle.operators.specs.Ready.{entries_in}
 use Rattle.operators.specs.Passing.{MayPass}
 use Rattle.operators.proofs.QuietLemmas.{none_of, none_waits}
 use Rattle.operators.proofs.running.Operator.quiet_until.Goals as goal

@@ -1,7 +1,7 @@
 use Rattle.std.proofs.Common.{subst, sym}
 use Rattle.column.specs.declared.batch.Side.{Side}
 use Rattle.operators.specs.Fronts.{MayComeFirst}
-use Rattle.operators.specs.Operators.{PlainOperator, inbox_of}
+use Rattle.operators.specs.Ready.{PlainOperator, inbox_of}
 use Rattle.operators.proofs.running.Operator.run_to.Goals as goal
 
 pub run_first-requires-clause-come : goal.run_first-requires-clause-come

@@ -1,4 +1,4 @@
-use Rattle.operators.specs.Inboxes.{entries_in}
+use Rattle.operators.specs.Ready.{entries_in}
 use Rattle.operators.proofs.FrontLemmas.{first_item}
 use Rattle.operators.proofs.RootFronts.{root_answers}
 use Rattle.operators.proofs.states.State.answer_first.Goals as goal

@@ -1,7 +1,7 @@
 use Rattle.std.proofs.Common.{◌≡◌, ◌<◌, ◌≤◌, ℕ, ap, arith, length, subst, ⊎_elim}
 use Rattle.std.proofs.lemmas.Bool.{cases_lt}
 use Rattle.operators.specs.Passing.{MayPass}
-use Rattle.laws_queries.specs.Queries.{PlainQuery, operator_at}
+use Rattle.laws_queries.specs.Plain.{PlainQuery, operator_at}
 use Rattle.query_runtime.specs.Turns.{log_of}
 use Rattle.query_runtime.proofs.queries.RunningQuery.quiet_until.Goals as goal
 

@@ -1,7 +1,7 @@
 -- Below the instant that was found, each operator that was looked at may pass.
 use Rattle.std.proofs.Common.{◌<◌, ◌≤◌, ℕ}
 use Rattle.operators.specs.Passing.{MayPass}
-use Rattle.laws_queries.specs.Queries.{operator_at}
+use Rattle.laws_queries.specs.Plain.{operator_at}
 use Rattle.query_runtime.specs.Turns.{log_of}
 use Rattle.query_runtime.proofs.queries.RunningQuery.quiet_until.Given as goal
 

@@ -1,6 +1,6 @@
 use Rattle.std.proofs.Common.{◌≤◌, length, subst}
 use Rattle.std.specs.Option.{option_copied}
-use Rattle.cql_reader.specs.Reading.{reading}
+use Rattle.cql_reader.specs.Judging.{reading}
 use Rattle.plan.specs.Chart.{given_by}
 use Rattle.reference.specs.Commands.{found_of}
 use Rattle.reference.specs.Finds.{Finds}

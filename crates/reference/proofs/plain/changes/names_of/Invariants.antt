@@ -1,5 +1,5 @@
 use Rattle.std.proofs.Common.{◌≡◌, take, length}
-use Rattle.names.specs.Views.{names_of}
+use Rattle.names.specs.Names.{names_of}
 use Rattle.reference.specs.CallViews.{texts_of}
 use Rattle.reference.proofs.plain.changes.names_of.Given as goal
 

@@ -1,7 +1,7 @@
 use Rattle.std.proofs.Common.{◌≡◌, ◌≤◌, ◌++◌, arith, ap, sym, ◌∙◌, length, not, ◌==◌, refl}
 use Rattle.std.specs.List.{list_any}
 use Rattle.std.proofs.lemmas.List.{length-map}
-use Rattle.cql_reader.specs.Views.{name_of}
+use Rattle.cql_reader.specs.Names.{name_of}
 use Rattle.reference.specs.Appended.{instants_of, values_of}
 use Rattle.reference.specs.Machine.{Stream}
 use Rattle.reference.proofs.StreamLemmas.{accepted_each}

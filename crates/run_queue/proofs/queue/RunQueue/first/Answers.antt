@@ -2,7 +2,8 @@ use Rattle.std.proofs.Common.{◌≡◌, ◌∙◌, None, Some, MatchOption, ap,
 use Rattle.std.specs.List.{slice_get}
 use Rattle.std.specs.List.Sorted.{IsStrictlySortedBy}
 use Rattle.run_queue.specs.Places.{winner_at}
-use Rattle.run_queue.specs.Slots.{first_of, slot_cmp, AreIdle, IsSteepest}
+use Rattle.run_queue.specs.Slots.{first_of, slot_cmp}
+use Rattle.run_queue.specs.Changes.{AreIdle, IsSteepest}
 use Rattle.run_queue.proofs.FirstLemmas.{first_is_steepest}
 use Rattle.run_queue.proofs.KeptLemmas.{leads, no_winner}
 use Rattle.run_queue.proofs.OrderLemmas.{ordered}

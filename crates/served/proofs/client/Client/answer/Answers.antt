@@ -9,7 +9,8 @@ use Rattle.reference.specs.CallViews.{texts_of}
 use Rattle.reference.specs.Commands.{Declare, Heartbeat, Register, Take}
 use Rattle.reference.specs.Replies as replies
 use Rattle.wire.specs.Printed.{answer_of}
-use Rattle.served.specs.Serving.{Carries, CarriesNamed, PeeksNamed, number_in}
+use Rattle.served.specs.Serving.{Carries, CarriesNamed}
+use Rattle.served.specs.Numbers.{number_in}
 use Rattle.served.proofs.Requests.{carried, forgot, serves_as}
 use Rattle.served.proofs.client.Client.answer.Goals as goal
 
@@ -54,12 +55,6 @@ returns-in-Forget g c =
     serves_as (g.D.Drainer.drains c.args.self.now.drainer) c.args.seat.now c.args.seat.now c.args.request _ (answer_of c.done-in-Forget.result) c.in-Forget.is
     (forgot c.forget.result (answer_of c.done-in-Forget.result) c.forget.ensures c.done-in-Forget.ensures, refl)
 
-pub returns-in-Plan : goal.returns-in-Plan
-returns-in-Plan g c =
-    serves_as (g.D.Drainer.drains c.args.self.now.drainer) c.args.seat.now c.args.seat.now c.args.request _ (answer_of c.show_plan.result) c.in-Plan.is ((rw c.as_str-in-Plan.ensures.value at c.show_plan.ensures), refl)
-
-pub returns-in-Peek : goal.returns-in-Peek
-returns-in-Peek g c =
-    let same = to_z-of_z w64 c.number_in-number.result (record { sfits = c.number_in-number.type_inv }) ∙ c.number_in-number.ensures ∙ ap number_in c.in-Peek.is in
-    serves_as (g.D.Drainer.drains c.args.self.now.drainer) c.args.seat.now c.args.seat.now c.args.request _ (answer_of c.peek.result) c.in-Peek.is
-    ((subst (λ z. PeeksNamed (string_bytes c.in-Peek.query) z (answer_of c.peek.result)) same (rw c.as_str-in-Peek.ensures.value at c.peek.ensures)), refl)
+pub returns-in-Look : goal.returns-in-Look
+returns-in-Look g c =
+    serves_as (g.D.Drainer.drains c.args.self.now.drainer) c.args.seat.now c.args.seat.now c.args.request _ (answer_of c.show.result) c.in-Look.is (c.show.ensures, refl)

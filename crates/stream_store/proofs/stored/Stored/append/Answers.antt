@@ -1,7 +1,7 @@
 use Rattle.std.proofs.Common.{◌≡◌, ◌∙◌, ◌+◌, sym, ap, subst, ℕ, List, arith, None, length}
 use Rattle.std.proofs.lemmas.List.{length-map}
-use Rattle.cql_reader.specs.Views.{name_of}
-use Rattle.names.specs.Views.{names_of}
+use Rattle.cql_reader.specs.Names.{name_of}
+use Rattle.names.specs.Names.{names_of}
 use Rattle.reference.specs.Machine.{Stream}
 use Rattle.names.specs.Faults.{first_of}
 use Rattle.reference.specs.Commands.{append_tests, appended}

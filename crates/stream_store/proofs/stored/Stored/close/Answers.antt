@@ -1,14 +1,16 @@
 use Rattle.std.proofs.Common.{◌≡◌, ◌≤◌, ◌∙◌, ◌+◌, ◌++◌, suc, sym, ap, subst, ℕ, List, arith, nat_abs, length, w64}
 use Rattle.std.proofs.lemmas.Int.{to_z-of_z}
-use Rattle.cql_reader.specs.Views.{name_of}
-use Rattle.names.specs.Views.{names_of}
+use Rattle.cql_reader.specs.Names.{name_of}
+use Rattle.names.specs.Names.{names_of}
 use Rattle.values.specs.Window.{Element}
 use Rattle.op_queue.specs.Cursors.{GainsClosed}
-use Rattle.op_queue.specs.Logs.{Closed, IsClosing}
+use Rattle.op_queue.specs.Logs.{Closed}
+use Rattle.op_queue.specs.Closings.{IsClosing}
 use Rattle.reference.specs.Machine.{Stream}
 use Rattle.reference.specs.Commands.{closed_to}
 use Rattle.stream_store.specs.Open.{up_to}
-use Rattle.stream_store.specs.Closing.{closed_of, closing_of}
+use Rattle.stream_store.specs.Closing.{closed_of}
+use Rattle.stream_store.specs.Gains.{closing_of}
 use Rattle.stream_store.specs.Stored.{IsStored, stream_in}
 use Rattle.stream_store.proofs.ArrivalLemmas.{given_lists}
 use Rattle.stream_store.proofs.StoredLemmas.{closed_stream, closing_stream, is_closing, stored_closed, closed_stream_to}

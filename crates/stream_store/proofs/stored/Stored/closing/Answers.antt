@@ -1,9 +1,9 @@
 use Rattle.std.proofs.Common.{◌∙◌, sym, ap, ℕ, nat_abs, w64}
 use Rattle.std.proofs.lemmas.Int.{to_z-of_z}
-use Rattle.cql_reader.specs.Views.{name_of}
+use Rattle.cql_reader.specs.Names.{name_of}
 use Rattle.reference.specs.Machine.{Stream}
 use Rattle.stream_store.specs.Open.{up_to}
-use Rattle.stream_store.specs.Closing.{closing_of}
+use Rattle.stream_store.specs.Gains.{closing_of}
 use Rattle.stream_store.proofs.StoredLemmas.{closing_stream, if_ok}
 use Rattle.stream_store.proofs.stored.Stored.closing.Goals as goal
 

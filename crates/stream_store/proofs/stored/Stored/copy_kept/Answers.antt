@@ -1,8 +1,8 @@
 use Rattle.std.proofs.Common.{◌≡◌, ◌≤◌, ◌∙◌, ◌++◌, ap, length, map, subst, sym, ℕ, List}
 use Rattle.std.specs.List.{filter}
 use Rattle.cql_reader.specs.declared.name.Name.{Name}
-use Rattle.cql_reader.specs.Views.{name_of}
-use Rattle.names.specs.Views.{names_of}
+use Rattle.cql_reader.specs.Names.{name_of}
+use Rattle.names.specs.Names.{names_of}
 use Rattle.values.specs.Window.{Element}
 use Rattle.op_queue.specs.Logs.{Closed}
 use Rattle.reference.specs.Machine.{Stream}

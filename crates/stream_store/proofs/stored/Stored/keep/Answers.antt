@@ -1,6 +1,6 @@
 use Rattle.std.proofs.Common.{◌≡◌, ◌≤◌, ◌∙◌, ap, length, map, subst, sym, List}
-use Rattle.cql_reader.specs.Views.{name_of}
-use Rattle.names.specs.Views.{names_of}
+use Rattle.cql_reader.specs.Names.{name_of}
+use Rattle.names.specs.Names.{names_of}
 use Rattle.values.specs.Window.{Element}
 use Rattle.op_queue.specs.Logs.{Closed}
 use Rattle.reference.specs.Machine.{Stream}

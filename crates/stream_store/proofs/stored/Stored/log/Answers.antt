@@ -1,5 +1,5 @@
 use Rattle.std.proofs.Common.{◌∙◌, sym, ap}
-use Rattle.cql_reader.specs.Views.{name_of}
+use Rattle.cql_reader.specs.Names.{name_of}
 use Rattle.reference.specs.Machine.{Stream}
 use Rattle.stream_store.specs.Closing.{closed_of}
 use Rattle.stream_store.proofs.StoredLemmas.{closed_stream}

@@ -1,6 +1,6 @@
 use Rattle.std.proofs.Common.{◌≡◌, subst}
 use Rattle.windows.specs.Instants.{InstantState, past_count}
-use Rattle.windows.specs.Reach.{oldest}
+use Rattle.values.specs.Moving.{oldest}
 use Rattle.windows.proofs.InstantsLemmas.{count_is}
 use Rattle.windows.proofs.instants.InstantWindow.count_past.Goals as goal
 

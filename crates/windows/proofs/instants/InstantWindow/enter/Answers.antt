@@ -10,7 +10,6 @@ invariant_of-self-then-shows_at_once c =
       order =
           subst (λ (w : ℕ). IsInOrder w c.enter.new.self.held) (sym c.enter.ensures.width)
           (order_enter c.args.at c.self.inside.held.width c.args.batch.now c.self.inside.held.held c.enter.new.self.held (c.requires.wide ∙ sym (ap (λ (s : InstantState). s.width) c.self.view_is)) c.in_ok-enter.ensures.held c.self.invariant.order after c.enter.ensures.table);
-      reach = c.self.invariant.reach;
       few = omega (arith, c.len-self-inside.ensures);
     }
 
@@ -21,6 +20,5 @@ invariant_of-self-else-shows_at_once c =
       order =
           subst (λ (w : ℕ). IsInOrder w c.enter.new.self.held) (sym c.enter.ensures.width)
           (order_enter c.args.at c.self.inside.held.width c.args.batch.now c.self.inside.held.held c.enter.new.self.held (c.requires.wide ∙ sym (ap (λ (s : InstantState). s.width) c.self.view_is)) c.in_ok-enter.ensures.held c.self.invariant.order after c.enter.ensures.table);
-      reach = c.self.invariant.reach;
       few = omega (arith, c.self.invariant.few, ap length c.in_ok-enter.ensures.held, length-append c.self.inside.held.held (map (held_at c.args.at) c.args.batch.now));
     }

@@ -1,7 +1,7 @@
 use Rattle.std.proofs.Common.{◌≡◌, [], subst}
 use Rattle.std.specs.List.{filter}
 use Rattle.windows.specs.Instants.{InstantState, is_past}
-use Rattle.windows.specs.Reach.{oldest}
+use Rattle.values.specs.Moving.{oldest}
 use Rattle.windows.proofs.instants.InstantWindow.keeps_until.Goals as goal
 
 pub returns : goal.returns

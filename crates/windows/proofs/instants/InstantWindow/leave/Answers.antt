@@ -8,6 +8,5 @@ invariant_of-self c = record {
   order =
       subst (λ (w : ℕ). IsInOrder w c.leave.new.self.held) (sym c.leave.ensures.width)
       (order_leave c.self.inside.held.width c.args.older c.self.inside.held.held c.leave.new.self.held c.leave.ensures.held c.self.invariant.order);
-  reach = c.self.invariant.reach;
   few = omega (arith, c.len-self-inside.ensures);
 }

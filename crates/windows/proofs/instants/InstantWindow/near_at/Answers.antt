@@ -1,7 +1,7 @@
 use Rattle.std.proofs.Common.{subst, ap, ap₂, sym, ◌∙◌, ◌≡◌, ◌-◌, ℕ, Bool, List, arith, length, map, take, drop, min, max}
 use Rattle.values.specs.Row.{Row}
 use Rattle.windows.specs.Instants.{HaveOneWidthIn, InstantExcerpt, InstantState, near_at, past_count}
-use Rattle.windows.specs.Reach.{oldest}
+use Rattle.values.specs.Moving.{oldest}
 use Rattle.windows.proofs.InstantsLemmas.{Parted, near_wide, parted, past_few}
 use Rattle.windows.proofs.instants.InstantWindow.near_at.Goals as goal
 

@@ -1,6 +1,7 @@
 use Rattle.std.proofs.Common.{◌++◌, ◌-◌, ◌≡◌, List, [], arith, drop, length, map, max, subst, sym, take, ℕ}
 use Rattle.values.specs.Row.{Row}
-use Rattle.op_queue.specs.Entries.{IsForward, RowAt}
+use Rattle.op_queue.specs.Entries.{RowAt}
+use Rattle.op_queue.specs.Forward.{IsForward}
 use Rattle.op_queue.specs.Queues.{HasGained}
 use Rattle.op_queue.proofs.GainLemmas.{gained-none, gained-same}
 use Rattle.std.specs.Prelude.{OnOk}

@@ -1,6 +1,7 @@
 use Rattle.std.proofs.Common.{◌++◌, ◌≡◌, List, arith, length, map, min, subst, sym, take, ℕ}
 use Rattle.values.specs.Row.{Row}
-use Rattle.op_queue.specs.Entries.{IsForward, RowAt}
+use Rattle.op_queue.specs.Entries.{RowAt}
+use Rattle.op_queue.specs.Forward.{IsForward}
 use Rattle.op_queue.specs.Queues.{HasGained}
 use Rattle.std.specs.Prelude.{OnOk}
 use Rattle.windows.specs.Instants.{InstantState, leaving, near_at, past_count}

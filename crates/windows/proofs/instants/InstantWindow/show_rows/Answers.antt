@@ -13,7 +13,6 @@ invariant_of-self-2 c =
       order =
           subst (λ (w : ℕ). IsInOrder w c.enter.new.self.held) (sym c.enter.ensures.width)
           (order_enter c.args.at c.self.inside.held.width c.args.batch c.self.inside.held.held c.enter.new.self.held (c.requires.wide ∙ sym (ap (λ (s : InstantState). s.width) c.self.view_is)) c.in_ok-enter.ensures.held c.self.invariant.order after c.enter.ensures.table);
-      reach = c.self.invariant.reach;
       few = omega (arith, c.len-self-inside.ensures);
     }
 

@@ -29,7 +29,7 @@ after c = c.count_stored.new.self
 
 -- both are the same engine
 same : (c : goal.After-count_stored) → engine_in (after c) ≡ engine_in (over c)
-same c = ap engine_in c.count_stored.ensures
+same c = ap engine_in c.count_stored.ensures.same
 
 moved : (c : goal.After-count_stored) (P : PlainEngine → Type 0) → P (engine_in (over c)) → P (engine_in (after c))
 moved c P h = subst P (sym (same c)) h
@@ -57,7 +57,7 @@ changes_not c =
 
 sound : (c : goal.After-count_stored) → IsSound (after c)
 sound c =
-    counted_sound (over c) (after c) c.count_stored.ensures
+    counted_sound (over c) (after c) c.count_stored.ensures.same
     (append_sound c.self.inside.state c.append-answer.new.self c.args.stream c.args.rows.now c.append-answer.result c.self.invariant (did c))
 
 pub invariant_of-self : goal.invariant_of-self

@@ -1,8 +1,0 @@
-use Rattle.std.proofs.Common.{refl}
-use Rattle.served.proofs.answer.show_status.Goals as goal
-
-pub returns-in-Ok : goal.returns-in-Ok
-returns-in-Ok g c = (c.in-Ok.ensures.0, c.in-Ok.status, refl, c.in-Ok.ensures.1)
-
-pub returns-in-Err : goal.returns-in-Err
-returns-in-Err g c = (c.in-Err.ensures.0, c.in-Err.ensures.1)

@@ -7,8 +7,11 @@ A kit whose `rt ci` keeps what passed is asked to do so: then this is `rt ci NAM
 earlier kit, which keeps nothing, each step is still the kit's own. What a step passed is kept in
 ~/.cache/continuous-queries, or in the folder that GATE_STORE names, by a checksum of all that it
 read: the kit, HANDLES, the crate's line and files, and the libraries below it as they were built.
-Nothing is kept of a step that failed. Edits are tried last, after all proofs and tests, and every
-program and test runs each time.
+Nothing is kept of a step that failed, and every program and test runs each time.
+
+Edits of different functions are made together, as `bench/further_edits` makes them: one check says
+of each function whether it is still proved. So that check is about these functions, and not about
+the whole crate. The kit tries by itself, and whole, each edit that is not refused so.
 
 With NAMEs only these crates and those below them are proved. --anew takes nothing over.
 --without-edits leaves the edits out, for a run before the whole gate.
@@ -19,6 +22,7 @@ import hashlib
 import importlib.machinery
 import importlib.util
 import os
+import re
 import shutil
 import sys
 import tempfile
@@ -31,20 +35,26 @@ sys.dont_write_bytecode = True
 RT = Path(shutil.which("rt") or "/opt/rattle/bin/rt").resolve()
 if not (RT.parent / "rtlib.py").exists():
     RT = Path("/opt/rattle/bin/rt")
+TOP = Path(__file__).resolve().parent.parent
 STORE = Path(os.environ.get("GATE_STORE") or Path.home() / ".cache/continuous-queries")
 FLAGS = ("--anew", "--without-edits")
+
+
+def load(name: str, path: Path) -> ModuleType:
+    """Returns a program as a module of this name."""
+    loader = importlib.machinery.SourceFileLoader(name, str(path))
+    spec = importlib.util.spec_from_file_location(name, path, loader=loader)
+    assert spec is not None
+    found = importlib.util.module_from_spec(spec)
+    sys.modules[name] = found
+    loader.exec_module(found)
+    return found
 
 
 def load_rt() -> ModuleType:
     """Returns the toolchain's command as a module."""
     sys.path.insert(0, str(RT.parent))
-    loader = importlib.machinery.SourceFileLoader("rt", str(RT))
-    spec = importlib.util.spec_from_file_location("rt", RT, loader=loader)
-    assert spec is not None
-    rt = importlib.util.module_from_spec(spec)
-    sys.modules["rt"] = rt
-    loader.exec_module(rt)
-    return rt
+    return load("rt", RT)
 
 
 def checksum(said: Iterable[Any]) -> str:
@@ -196,24 +206,57 @@ def text_of(path: Path | str) -> str:
     return Path(path).read_text(encoding="utf-8")
 
 
-def try_edits_last(rt: ModuleType, has_edits: bool) -> None:
-    """Has `rt ci` prove all crates and tests first, and then try the edits, or none."""
-    in_lanes = rt.in_lanes
+def try_edits_together(rt: ModuleType) -> None:
+    """Has `rt ci` make edits of different functions together. Each that is not refused so is tried
+    by the kit, by itself."""
+    further = load("further_edits", TOP / "bench/further_edits")
 
-    def in_order(tasks: dict[Any, Any]) -> dict[Any, Any]:
-        given: dict[Any, Any] = in_lanes({it: tasks[it] for it in tasks if it[1] != "edits"})
-        rest = {it: tasks[it] for it in tasks if it[1] == "edits"}
-        if not has_edits:
-            return given | {it: ([], [], []) for it in rest}
-        given |= in_lanes({it: after(given, *task) for it, task in rest.items()})
-        return given
+    def refused(crate: Any, edits: list[str], flags: list[str]) -> dict[str, str]:
+        """Returns why each edit that is refused together with others is, by its path."""
+        found: dict[str, str] = {}
+        steps = {it: further.steps_of(text_of(it).split("\n")) for it in edits}
+        made = [further.edit_of(Path(crate.folder), it, steps[it]) for it in edits]
+        words = [*rt.rtlib.guarded(), rt.rtlib.RATTLE, "check", *crate.words(flags, keeps=False)]
+        with tempfile.TemporaryDirectory(prefix="rt-edits-") as room:
+            trial = further.Built(crate.name, Path(room), words, Path(crate.folder))
+            for some in further.rounds_of([it for it in made if not it.fault]):
+                for edit, verdict in trial.tried(some):
+                    if verdict == "refused":
+                        found[edit.name] = why_refused(further, crate.name, edit, trial.said)
+        return found
 
-    rt.in_lanes = in_order  # type: ignore[attr-defined]
+    def must_fail_all(crate: Any, edits: list[str], flags: list[str]) -> list[tuple[bool, str]]:
+        why = refused(crate, edits, flags)
+        label = f"must-fail {crate.name}/{{}}: refused, as it must be{{}}"
+        return [(True, label.format(Path(it).name, why[it])) if it in why
+                else rt.must_fail(crate, it, flags) for it in edits]
+
+    rt.must_fail_all = must_fail_all  # type: ignore[attr-defined]
 
 
-def after(given: dict[Any, Any], _waits: Any, lines: int, needs: int, call: Any) -> Any:
-    """Returns a task that waits for nothing, since all that it waits for is given."""
-    return (), lines, needs, lambda _, jobs: call(given, jobs)
+# What a check says of a proof that names what an edit took away.
+TAKEN_AWAY = re.compile(r"has no field|is not in scope|has no `|was not admitted")
+
+
+def why_refused(further: ModuleType, crate: str, edit: Any, said: str) -> str:
+    """Returns what a check says of the functions of an edit that are not proved: a goal, or that
+    only a proof file names what the edit took away, which says little of a contract."""
+    paths = {path for path, _ in further.VERDICT.findall(said)
+             if further.is_of(path, crate, edit.functions)}
+    homes = ["proofs/" + path.split("::", 1)[1].replace("::", "/") + "/" for path in paths]
+    told = [it.removeprefix("./") for it in said.split("\n")]
+    goals = [it for it in told if it.startswith(tuple(f"fn {path}:" for path in paths))
+             and "did not prove" in it]
+    errors = [it for it in told if it.startswith(tuple(homes)) and ": error: " in it]
+    others = [it for it in errors if not TAKEN_AWAY.search(it)]
+    if errors and not goals and not others:
+        return f" (only because a proof file names what the edit took away): {errors[0][:160]}"
+    return "".join(f": {it[:160]}" for it in [*goals, *others][:1])
+
+
+def leave_edits_out(rt: ModuleType) -> None:
+    """Has `rt ci` try no edits."""
+    rt.edits_of = lambda crate: ([], [])  # type: ignore[attr-defined]
 
 
 def prove_only(rt: ModuleType, names: list[str]) -> None:
@@ -242,8 +285,10 @@ def main() -> int:
         os.execv(RT, ["rt", "ci", *(["--anew"] if "--anew" in words else []), *names])
     store = Store(rt, rt.handles_of(os.getcwd()), "--anew" in words)
     keep_proofs(rt, store)
+    try_edits_together(rt)
     keep_edits(rt, store)
-    try_edits_last(rt, "--without-edits" not in words)
+    if "--without-edits" in words:
+        leave_edits_out(rt)
     if names:
         prove_only(rt, names)
     status: int = rt.main(["ci"])

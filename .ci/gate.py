@@ -254,6 +254,20 @@ def why_refused(further: ModuleType, crate: str, edit: Any, said: str) -> str:
     return "".join(f": {it[:160]}" for it in [*goals, *others][:1])
 
 
+def fit_memory(rt: ModuleType) -> None:
+    """Has `rt ci` start as many checks as there is memory for, by what each took when it was
+    measured (docs/GATE.md), and a tenth more. The kit's own figure is two to four times that."""
+    table = text_of(TOP / "docs/GATE.md")
+    measured = dict(re.findall(r"^\| `(\w+)` \|(?:[^|]*\|){3} ([\d.]+) GB \|", table, re.MULTILINE))
+    need = rt.need
+
+    def need_of(crate: Any) -> float:
+        gigabytes: float = 1.1 * float(measured.get(crate.name) or need(crate) / 1.1e9)
+        return gigabytes * 1e9
+
+    rt.need = need_of  # type: ignore[attr-defined]
+
+
 def leave_edits_out(rt: ModuleType) -> None:
     """Has `rt ci` try no edits."""
     rt.edits_of = lambda crate: ([], [])  # type: ignore[attr-defined]
@@ -285,6 +299,7 @@ def main() -> int:
         os.execv(RT, ["rt", "ci", *(["--anew"] if "--anew" in words else []), *names])
     store = Store(rt, rt.handles_of(os.getcwd()), "--anew" in words)
     keep_proofs(rt, store)
+    fit_memory(rt)
     try_edits_together(rt)
     keep_edits(rt, store)
     if "--without-edits" in words:

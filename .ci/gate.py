@@ -268,9 +268,24 @@ def fit_memory(rt: ModuleType) -> None:
     rt.need = need_of  # type: ignore[attr-defined]
 
 
-def leave_edits_out(rt: ModuleType) -> None:
-    """Has `rt ci` try no edits."""
-    rt.edits_of = lambda crate: ([], [])  # type: ignore[attr-defined]
+def start_what_is_work(rt: ModuleType, has_edits: bool) -> None:
+    """Has `rt ci` pass over tests and edits that there are none of: a task that waits takes a
+    processor from a proof, also one with nothing to do. Without edits none is tried."""
+    in_lanes = rt.in_lanes
+
+    def in_lanes_of_work(tasks: dict[Any, Any]) -> dict[Any, Any]:
+        nothing = {it: [True, ([], [], [])][it[1] == "edits"] for it in tasks
+                   if it[1] == "tests" and not tasks[it][1] or it[1] == "edits" and not has_edits}
+        work = {it: passing(nothing, *tasks[it]) for it in tasks if it not in nothing}
+        return nothing | dict(in_lanes(work))
+
+    rt.in_lanes = in_lanes_of_work  # type: ignore[attr-defined]
+
+
+def passing(known: dict[Any, Any], waits: Any, lines: int, needs: float, call: Any) -> Any:
+    """Returns a task that waits for nothing of which it is known what it gives."""
+    rest = [it for it in waits if it not in known]
+    return rest, lines, needs, lambda given, jobs: call(known | given, jobs)
 
 
 def prove_only(rt: ModuleType, names: list[str]) -> None:
@@ -302,8 +317,7 @@ def main() -> int:
     fit_memory(rt)
     try_edits_together(rt)
     keep_edits(rt, store)
-    if "--without-edits" in words:
-        leave_edits_out(rt)
+    start_what_is_work(rt, "--without-edits" not in words)
     if names:
         prove_only(rt, names)
     status: int = rt.main(["ci"])

@@ -21,6 +21,7 @@ use Rattle.leases.specs.Keeping.{AllSay, going_over}
 use Rattle.leases.specs.Views.{query_of, remains_of}
 use Rattle.leases.specs.declared.registered.Registration.{Registration}
 use Rattle.leases.specs.declared.remains.Remains.{Remains}
+use Rattle.leases.specs.declared.state.EngineState.{EngineState}
 use Rattle.leases.specs.declared.state.forget.Going.{Going}
 use Rattle.leases.specs.declared.state.forget.KeptRows.{KeptRows}
 
@@ -41,6 +42,10 @@ walked_in e =
 -- the most that may be stored before it pays to forget, after a forgetting that left so much
 abbrev pub most_after : ℕ → ℕ
 most_after left = left * 2 + 1024
+
+-- so much is stored that it does not pay to forget
+abbrev pub HasNoneToForget : EngineState → Type 0
+HasNoneToForget s = s.stored ≤ most_after s.left
 
 -- which elements of the stream of a number some running query needs
 abbrev pub needs_in : PlainEngine → ℕ → Element → Bool

@@ -20,6 +20,7 @@ ghost use Rattle.laws_engine.specs.Openings.{forgotten};
 ghost use Rattle.laws_engine.specs.Promises.{AreCompleteUpto, HasAllWaiting, KeepsItsPromises};
 ghost use Rattle.leases.specs.ByQuery.{RunsByQuery};
 ghost use Rattle.leases.specs.Drains.{LeavesOthers};
+ghost use Rattle.leases.specs.Forgets.{HasNoneToForget};
 ghost use Rattle.leases.specs.Looks.{Shows, status_in_engine};
 ghost use Rattle.leases.specs.Queues.{LeavesQueues, LengthensQueues};
 ghost use Rattle.leases.specs.Registering.{Registers};
@@ -209,7 +210,12 @@ impl Answering for Engine {
         Ok(self.state.forget()?)
     }
 
+    /// Forgets if more is stored than twice what the last forgetting left, and 1,024 rows.
+    /// Registered queries count too. When out of memory, it puts that off.
+    ///
+    /// Example: `a_tidy_waits_until_it_pays` in crates/uses/src/engine.rt.
     fn tidy(&mut self)
+        ensures pays { HasNoneToForget self.new }
         ensures alike { IsWhole self.old → Alike (world_in self.old) (world_in self.new) }
         ensures whole { IsWhole self.old → IsWhole self.new }
         ensures numbers { HasNumbers self.old → HasNumbers self.new }

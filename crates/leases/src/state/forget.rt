@@ -15,8 +15,8 @@ ghost use Rattle.laws_dataflow.specs.Roots.{behind};
 ghost use Rattle.laws_engine.specs.Engines.{answers_in};
 ghost use Rattle.laws_engine.specs.Openings.{forgotten, mark_in};
 ghost use Rattle.leases.specs.Forgets.{AreMarkable, AreReadIn, IsMarkable, IsReadLog, IsSaid};
-ghost use Rattle.leases.specs.Forgets.{Says, counted, earlier_in, going_in, most_after, needs_in};
-ghost use Rattle.leases.specs.Forgets.{restarted_by, walked_in};
+ghost use Rattle.leases.specs.Forgets.{HasNoneToForget, Says, counted, earlier_in, going_in};
+ghost use Rattle.leases.specs.Forgets.{needs_in, restarted_by, walked_in};
 ghost use Rattle.leases.specs.Going.{all_sources};
 ghost use Rattle.leases.specs.Keeping.{start_of};
 ghost use Rattle.leases.specs.Shown.{engine_in};
@@ -88,7 +88,7 @@ impl EngineState {
         requires { IsSound self.old }
         ensures forgotten { (engine_in self.new ≡ engine_in self.old)
             ⊎ (engine_in self.new ≡ forgotten (engine_in self.old)) }
-        ensures pays { self.new.stored ≤ most_after self.new.left }
+        ensures pays { HasNoneToForget self.new }
         ensures sound { IsSound self.new }
     {
         let most = self.left.saturating_mul(2).saturating_add(ROWS_BEFORE_TIDY);

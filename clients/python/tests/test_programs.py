@@ -31,6 +31,8 @@ DONE = '{"ok":true}\n'
 
 DRAIN = b'{"op":"drain"}\n'
 
+TAKE = '{"op":"take","query":"q","limit":9}\n'
+
 EMPTY_APPEND = '{"op":"append","stream":"S","rows":[]}\n'
 
 CALLS = 100_100  # more than a history of 100,000 calls has room for
@@ -50,6 +52,10 @@ LISTEN = "0A"  # the state of a socket in /proc/net/tcp
 LOOPBACK = "0100007F"  # 127.0.0.1 there
 
 MANY_CONNECTIONS = 1_100  # more than a thousand, and than 1,024
+
+SILENCE = 0.2  # seconds, after which workers were woken for what a client left
+
+CYCLES = 300  # of requests in lines of their own
 
 # What help says that the options of a program take.
 HELP = {
@@ -87,6 +93,16 @@ def said(
         timeout=PATIENCE,
         env={**os.environ, **(variables or {})},
     )
+
+
+def append(at: int) -> str:
+    """Returns a request that appends the row 5 at an instant."""
+    return f'{{"op":"append","stream":"S","rows":[[{at},5]]}}\n'
+
+
+def heartbeat(at: int) -> str:
+    """Returns a request that closes the instants up to this one."""
+    return f'{{"op":"heartbeat","stream":"S","at":{at}}}\n'
 
 
 def script(instants: int) -> str:
@@ -266,17 +282,21 @@ def is_idle(process: int) -> bool:
     return False
 
 
-def options_of(*words: str) -> dict[tuple[int, int], int]:
+def options_of(*words: str, leaves_work: bool = False) -> dict[tuple[int, int], int]:
     """Returns the options that a server with these words gives the socket of a connection.
 
-    They are by level and number. The server says them itself, by a `setsockopt` that is loaded
-    before it.
+    They are by level and number, each as it was set last. The server says them itself, by a
+    `setsockopt` that is loaded before it. If the client leaves work, it is silent until that is
+    done.
     """
     with tempfile.TemporaryDirectory() as folder:
         library = compiled(Path(__file__).with_name("told_options.c"), folder)
         variables = {"LD_PRELOAD": str(library)}
         with listening("--serve=1", *words, variables=variables) as (server, port):
             with connected(port) as client:
+                if leaves_work:
+                    leave_work(client)
+                    time.sleep(SILENCE)
                 assert answers(client)
             _, errors = server.communicate(timeout=PATIENCE)
     found = {}
@@ -285,6 +305,23 @@ def options_of(*words: str) -> dict[tuple[int, int], int]:
         assert word == "option"
         found[int(level), int(option)] = int(value)
     return found
+
+
+def leave_work(client: socket.socket) -> None:
+    """Leaves the row 5 of the instant 0 to the workers, by a heartbeat in a line of its own."""
+    for lines in (SETUP + DRAIN.decode(), append(0), heartbeat(0)):
+        assert asked(client, lines) == [DONE] * lines.count("\n")
+
+
+def switches_of_a_worker(server: int) -> int:
+    """Returns how often the worker of a server has gone to sleep. It is the second thread."""
+    threads = sorted(int(path.name) for path in Path(f"/proc/{server}/task").iterdir())
+    status = Path(f"/proc/{server}/task/{threads[1]}/status").read_text()
+    return next(
+        int(line.split()[1])
+        for line in status.splitlines()
+        if line.startswith("voluntary_ctxt_switches")
+    )
 
 
 def listeners(port: int) -> list[tuple[str, str]]:
@@ -813,6 +850,41 @@ class Programs(unittest.TestCase):
             options = options_of(*words)
             for option in (socket.SO_RCVTIMEO, socket.SO_SNDTIMEO):
                 self.assertEqual(options.get((socket.SOL_SOCKET, option), 0), seconds)
+
+    def test_silence_is_limited_so_after_work_was_left_too(self) -> None:
+        for words, seconds in ((), 0), (("--idle=86400",), 86_400):
+            options = options_of(*words, leaves_work=True)
+            self.assertEqual(options.get((socket.SOL_SOCKET, socket.SO_RCVTIMEO)), seconds)
+
+    def test_workers_do_what_a_silent_client_left(self) -> None:
+        with listening(clients=2) as (_, port):
+            with connected(port) as silent, connected(port) as other:
+                leave_work(silent)
+                # neither a take nor anybody else wakes a worker
+                wait_until(lambda: "[0,5]" in asked(other, TAKE)[0])
+                time.sleep(SILENCE)
+                self.assertTrue(answers(silent))
+
+    def test_workers_do_what_a_client_leaves_that_never_drains(self) -> None:
+        with listening() as (_, port), connected(port) as client:
+            leave_work(client)
+            for at in range(1, CYCLES):
+                asked(client, append(at))
+                asked(client, heartbeat(at))
+            self.assertIn("[0,5]", asked(client, TAKE)[0])
+
+    def test_a_client_that_drains_at_once_wakes_no_worker(self) -> None:
+        with listening() as (server, port), connected(port) as client:
+            leave_work(client)
+            self.assertTrue(answers(client))
+            time.sleep(SILENCE)
+            before = switches_of_a_worker(server.pid)
+            for at in range(1, CYCLES):
+                for lines in append(at), heartbeat(at), DRAIN.decode(), TAKE:
+                    asked(client, lines)
+            woken = switches_of_a_worker(server.pid) - before
+            # (a client that the system lets wait is silent meanwhile)
+            self.assertLess(woken, CYCLES // 2)
 
     def test_a_server_listens_only_on_loopback(self) -> None:
         with listening() as (_, port):

@@ -42,6 +42,9 @@ pub struct Connection<'a, R> {
     has_differed: AtomicBool,
     /// Is rung when a seat differs, if there is one.
     alarm: Option<&'a Alarm>,
+    /// Says whether the client of a server's connection may have left work for which no worker was
+    /// woken. Its source wakes one then.
+    leaves_work: Option<&'a AtomicBool>,
 }
 
 impl<'a, R> Connection<'a, R> {
@@ -61,12 +64,14 @@ impl<'a, R> Connection<'a, R> {
             threads: 1,
             has_differed: AtomicBool::new(false),
             alarm: None,
+            leaves_work: None,
         }
     }
 
     /// Makes one of a server: its turns have at most `TURN_ROWS` rows. Its `serve` drains in at
     /// most so many threads if they pay. It rings an alarm if a seat differs from the history. It
-    /// does so at once: a forget may take what showed it.
+    /// does so at once: a forget may take what showed it. The source of its one client wakes the
+    /// workers for what `leaves_work` says.
     pub(crate) fn watched(
         rt: &'a R,
         alloc: Global,
@@ -74,6 +79,7 @@ impl<'a, R> Connection<'a, R> {
         forget: u64,
         threads: usize,
         alarm: &'a Alarm,
+        leaves_work: &'a AtomicBool,
     ) -> Connection<'a, R>
         ensures rows { result.rows ≡ TURN_ROWS }
         ensures forget { result.forget ≡ forget }
@@ -88,6 +94,7 @@ impl<'a, R> Connection<'a, R> {
             threads,
             has_differed: AtomicBool::new(false),
             alarm: Some(alarm),
+            leaves_work: Some(leaves_work),
         }
     }
 }
@@ -139,12 +146,15 @@ impl<R: Threads + Wait + Sync> Connection<'_, R> {
             drainer,
             settles: true,
         };
+        let own = AtomicBool::new(false);
         let keeper = Keeper {
             client,
             forget: self.forget,
             has_differed,
             alarm: self.alarm,
-            leaves_work: AtomicBool::new(false),
+            leaves_work: &own,
+            source_wakes: false,
+            has_left_wake: AtomicBool::new(false),
         };
         answer_requests(self.alloc, source, sink, &keeper, seat)
     }
@@ -195,12 +205,15 @@ impl<R: Threads + Wait + Sync> Connection<'_, R> {
             drainer,
             settles: true,
         };
+        let own = AtomicBool::new(false);
         let keeper = Keeper {
             client: connection,
             forget: self.forget,
             has_differed,
             alarm: self.alarm,
-            leaves_work: AtomicBool::new(false),
+            leaves_work: self.leaves_work.unwrap_or(&own),
+            source_wakes: self.leaves_work.is_some(),
+            has_left_wake: AtomicBool::new(false),
         };
         answer_requests(self.alloc, source, sink, &keeper, seat)
     }

@@ -19,9 +19,10 @@ const RECEIPTS: usize = 16;
 /// from the history, it does neither: a forget would take what shows it.
 ///
 /// A settle wakes one worker if the client may have left work. It may have: it closed instants or
-/// registered a query, and no drain came to its end since. A look wakes one worker if any work is
-/// left, or all of them if the seat holds no receipts or differed. So whoever asks how far a query
-/// is also sees to it that the work goes on.
+/// registered a query, and no drain came to its end since. If the source wakes the workers, a
+/// settle before a read leaves that to it once: the client may be about to drain. A look wakes one
+/// worker if any work is left, or all of them if the seat holds no receipts or differed. So whoever
+/// asks how far a query is also sees to it that the work goes on.
 #[derive(Drop)]
 pub(crate) struct Keeper<'a, 'b, R, D: Drainer> {
     /// Answers the requests.
@@ -33,7 +34,11 @@ pub(crate) struct Keeper<'a, 'b, R, D: Drainer> {
     /// Is rung when the seat differs from the history, if there is one.
     pub(crate) alarm: Option<&'b Alarm>,
     /// Says whether the client may have left work for which no worker was woken.
-    pub(crate) leaves_work: AtomicBool,
+    pub(crate) leaves_work: &'b AtomicBool,
+    /// Says whether the source wakes workers for that if the client is silent.
+    pub(crate) source_wakes: bool,
+    /// Says whether a wake was left to the source since the seat last woke a worker.
+    pub(crate) has_left_wake: AtomicBool,
 }
 
 /// Says what a request, once it is answered, means for the work that is left.
@@ -86,7 +91,8 @@ impl<R: Wait, D: Drainer> Keeper<'_, '_, R, D> {
             Ok(Request::Forget | Request::Look(Look::Peek { .. } | Look::Status))
         ) {
             self.leaves_work.store(true, Ordering::SeqCst);
-            self.settle(seat);
+            let wakes = self.take_wake();
+            self.settle(seat, wakes);
         }
     }
 
@@ -96,7 +102,7 @@ impl<R: Wait, D: Drainer> Keeper<'_, '_, R, D> {
             Work::Made => self.leaves_work.store(true, Ordering::SeqCst),
             Work::Done => {
                 if is_done(reply) {
-                    self.leaves_work.store(false, Ordering::SeqCst);
+                    self.take_wake();
                 }
             }
             Work::Same => {}
@@ -109,18 +115,33 @@ impl<R: Wait, D: Drainer> Keeper<'_, '_, R, D> {
     {
         let count = seat.receipts().len();
         if count >= RECEIPTS || (waits && count > 0) {
-            self.settle(seat);
+            let wakes = !(waits && self.leaves_wake()) && self.take_wake();
+            self.settle(seat, wakes);
         }
     }
 
-    // Settles the seat, and wakes one worker if the client may have left work. Then the hub forgets
-    // if that is due. If the receipts differ from the history, it is noted and they stay. From then
-    // on, and without receipts, it only wakes all workers.
-    fn settle(&self, seat: &mut Seat)
+    // Returns whether the source may wake the workers in place of the seat: there may be work for
+    // them, and no wake was left to the source before. So the work of a client that never drains is
+    // put off once, and not each time.
+    fn leaves_wake(&self) -> bool {
+        self.source_wakes
+            && self.leaves_work.load(Ordering::SeqCst)
+            && !self.has_left_wake.swap(true, Ordering::SeqCst)
+    }
+
+    // Returns whether the client may have left work, and notes that a worker is woken for it, or
+    // that it is done.
+    fn take_wake(&self) -> bool {
+        self.has_left_wake.store(false, Ordering::SeqCst);
+        self.leaves_work.swap(false, Ordering::SeqCst)
+    }
+
+    // Settles the seat, and wakes one worker if `wakes` says so. Then the hub forgets if that is
+    // due. If the receipts differ from the history, it is noted and they stay. From then on, and
+    // without receipts, it only wakes all workers.
+    fn settle(&self, seat: &mut Seat, wakes: bool)
         ensures { MaySettle seat.old seat.new }
     {
-        let wakes = self.leaves_work.load(Ordering::SeqCst);
-        self.leaves_work.store(false, Ordering::SeqCst);
         let (rt, hub) = (self.client.rt, self.client.hub);
         if seat.receipts().is_empty() || self.has_differed.load(Ordering::SeqCst) {
             if wakes {

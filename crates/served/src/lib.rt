@@ -11,6 +11,7 @@ mod duty;
 mod faults;
 mod keeper;
 mod lines;
+mod patient;
 mod server;
 
 pub use connection::Connection;

@@ -10,10 +10,12 @@ use crate::connection::Connection;
 use crate::door::Door;
 use crate::duty::{Duty, Telling, take_back};
 use crate::faults::{lack_server_memory, tell};
+use crate::patient::PatientSource;
 use command_lines::{ServeOptions, TURN_ROWS};
 use hub::{Hub, MAX_HISTORY, Seat};
 use std::alloc::{AllocError, Global};
 use std::net::{TcpListener, TcpStream};
+use std::sync::atomic::AtomicBool;
 use std::sync::{Mutex, Wait};
 use std::thread::{JoinHandle, Threads};
 use std::time::Duration;
@@ -286,11 +288,23 @@ fn client<R: Threads + Wait + Sync>(
         let Some(stream) = admitted(rt, alarm, accepted) else {
             break;
         };
+        let idle = idle.map(|seconds| Duration::from_secs(seconds as u64));
         if prepare(&stream, idle).is_err() {
             continue;
         }
-        let connection = Connection::watched(rt, alloc, hub, forget, threads, alarm);
-        let mut source = ReaderSource::new(&stream);
+        let work = AtomicBool::new(false);
+        let connection = Connection::watched(rt, alloc, hub, forget, threads, alarm, &work);
+        let mut source = PatientSource {
+            rt,
+            hub,
+            stream: &stream,
+            source: ReaderSource::new(&stream),
+            idle,
+            leaves_work: &work,
+            is_brief: false,
+            turns: u64::MAX,
+            failures: 0,
+        };
         let mut sink = WriterSink::new(&stream);
         let _ = connection.serve(&mut source, &mut sink, &mut seat);
         let agrees = hub.settle(rt, &mut seat);
@@ -317,10 +331,9 @@ fn admitted<R: Wait>(
     }
 }
 
-// Lets replies leave at once. Lets reads and writes fail that wait for `idle` seconds.
-fn prepare(stream: &TcpStream, idle: Option<u32>) -> io::Result<()> {
+// Lets replies leave at once. Lets reads and writes fail that wait for `idle`.
+fn prepare(stream: &TcpStream, idle: Option<Duration>) -> io::Result<()> {
     stream.set_nodelay(true)?;
-    let limit = idle.map(|seconds| Duration::from_secs(seconds as u64));
-    stream.set_read_timeout(limit)?;
-    stream.set_write_timeout(limit)
+    stream.set_read_timeout(idle)?;
+    stream.set_write_timeout(idle)
 }

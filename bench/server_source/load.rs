@@ -1,14 +1,15 @@
 //! Plays request lines over connections to 127.0.0.1, or over its own two pipes, and says on
 //! standard error how long they took. Its lines are made before the clock starts.
 //!
-//! usage: load cycles WHERE CLIENTS ROWS CYCLES SECONDS burst|turn [echo]
+//! usage: load cycles WHERE CLIENTS ROWS FIRST CYCLES SECONDS burst|turn [echo]
 //!        load takes WHERE COUNT SECONDS
 //!        load curve PORT PROCESS ROWS STEP STEPS MOST
 //!        load empty PORT PROCESS COUNT
 //!
 //! WHERE is a port, or `pipes`: then replies come on standard input, and requests go to standard
 //! output. A cycle is an append of so many rows, a heartbeat, a drain and a take. It goes in one
-//! burst, or line by line, each after the reply to the one before.
+//! burst, or line by line, each after the reply to the one before. FIRST cycles of each client come
+//! before the clock starts.
 
 use std::env;
 use std::error::Error;
@@ -245,15 +246,15 @@ fn say(trips: &mut [u64], seconds: f64, count: usize) {
 }
 
 fn cycles(words: &[String]) -> Outcome<()> {
-    let [place, clients, rows, count, limit, how, rest @ ..] = words else {
+    let [place, clients, rows, first, count, limit, how, rest @ ..] = words else {
         return Err("bad words".into());
     };
-    let (clients, rows, count): (usize, usize, usize) =
-        (clients.parse()?, rows.parse()?, count.parse()?);
+    let (clients, rows): (usize, usize) = (clients.parse()?, rows.parse()?);
+    let (first, count): (usize, usize) = (first.parse()?, count.parse()?);
     let limit = Duration::from_secs_f64(limit.parse()?);
     let in_bursts = how == "burst";
     let is_engine = rest.is_empty();
-    let made = |client| -> Vec<Cycle> { Cycles::new(client, rows).take(count).collect() };
+    let made = |client| -> Vec<Cycle> { Cycles::new(client, rows).take(first + count).collect() };
     let mut parts: Vec<(Link, Vec<Cycle>)> = Vec::new();
     if place == "pipes" {
         // one link, over which the clients take turns
@@ -264,7 +265,7 @@ fn cycles(words: &[String]) -> Outcome<()> {
             all.push(made(client).into_iter());
         }
         let mut cycles = Vec::new();
-        for _ in 0..count {
+        for _ in 0..first + count {
             cycles.extend(all.iter_mut().filter_map(Iterator::next));
         }
         parts.push((link, cycles));
@@ -276,25 +277,32 @@ fn cycles(words: &[String]) -> Outcome<()> {
         }
     }
     let start = Arc::new(Barrier::new(parts.len() + 1));
+    let untimed = first * clients / parts.len();
     let threads: Vec<_> = parts
         .into_iter()
         .map(|(mut link, cycles)| {
             let start = Arc::clone(&start);
             thread::spawn(move || {
+                let (first, rest) = cycles.split_at(untimed);
+                let filled = play(&mut link, first, Instant::now() + PATIENCE, in_bursts);
                 start.wait();
-                play(&mut link, &cycles, Instant::now() + limit, in_bursts)
+                let untimed = filled?.cycles;
+                let played = play(&mut link, rest, Instant::now() + limit, in_bursts)?;
+                Ok::<_, Box<dyn Error + Send + Sync>>((untimed, played))
             })
         })
         .collect();
     start.wait();
     let begun = Instant::now();
-    let (mut trips, mut done) = (Vec::new(), 0);
+    let (mut trips, mut done, mut all) = (Vec::new(), 0, 0);
     for thread in threads {
-        let played = thread.join().map_err(|_| "a thread failed")??;
+        let (untimed, played) = thread.join().map_err(|_| "a thread failed")??;
         trips.extend(played.trips);
         done += played.cycles;
+        all += untimed + played.cycles;
     }
     say(&mut trips, begun.elapsed().as_secs_f64(), done);
+    eprintln!("all {all}");
     Ok(())
 }
 

@@ -36,10 +36,10 @@ class Timed(NamedTuple):
 
     @staticmethod
     def of(said: Said, processor: float) -> "Timed":
-        """Reads it from what the load said."""
+        """Reads it from what the load said. The processor's time is that of untimed ones too."""
         count = max(1.0, said.number("count"))
         return Timed(said.number("seconds") / count, said.number("p50"), said.number("p99"),
-                     processor / count)
+                     processor / float(said.text("all") or count))
 
 
 class Program:

@@ -20,23 +20,47 @@ const PATIENCE: u64 = 2;
 #[derive(Drop)]
 pub(crate) struct PatientSource<'a, R, S> {
     /// Provides locks.
-    pub(crate) rt: &'a R,
+    rt: &'a R,
     /// Is called by the client.
-    pub(crate) hub: &'a Hub,
-    /// Is the connection, whose reads wait for `idle` at first.
-    pub(crate) stream: &'a TcpStream,
+    hub: &'a Hub,
+    /// Is the connection.
+    stream: &'a TcpStream,
     /// Reads the connection.
-    pub(crate) source: S,
+    source: S,
     /// Limits how long a read may wait, if anything does.
-    pub(crate) idle: Option<Duration>,
+    idle: Option<Duration>,
     /// Says whether the client may have left work for which no worker was woken.
-    pub(crate) leaves_work: &'a AtomicBool,
+    leaves_work: &'a AtomicBool,
     /// Says whether reads wait for only `PATIENCE` milliseconds. At first they do not.
-    pub(crate) is_brief: bool,
+    is_brief: bool,
     /// Counts how many reads may still give bytes.
-    pub(crate) turns: u64,
+    turns: u64,
     /// Counts the reads that failed; the count stops when 64 bits are full.
-    pub(crate) failures: u64,
+    failures: u64,
+}
+
+impl<'a, R, S> PatientSource<'a, R, S> {
+    /// Returns a source of what `source` reads of the connection, whose reads wait for `idle`.
+    pub(crate) fn new(
+        rt: &'a R,
+        hub: &'a Hub,
+        stream: &'a TcpStream,
+        source: S,
+        idle: Option<Duration>,
+        leaves_work: &'a AtomicBool,
+    ) -> PatientSource<'a, R, S> {
+        PatientSource {
+            rt,
+            hub,
+            stream,
+            source,
+            idle,
+            leaves_work,
+            is_brief: false,
+            turns: u64::MAX,
+            failures: 0,
+        }
+    }
 }
 
 impl<R: Wait, S: Source> Source for PatientSource<'_, R, S> {

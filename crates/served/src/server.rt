@@ -294,17 +294,8 @@ fn client<R: Threads + Wait + Sync>(
         }
         let work = AtomicBool::new(false);
         let connection = Connection::watched(rt, alloc, hub, forget, threads, alarm, &work);
-        let mut source = PatientSource {
-            rt,
-            hub,
-            stream: &stream,
-            source: ReaderSource::new(&stream),
-            idle,
-            leaves_work: &work,
-            is_brief: false,
-            turns: u64::MAX,
-            failures: 0,
-        };
+        let reader = ReaderSource::new(&stream);
+        let mut source = PatientSource::new(rt, hub, &stream, reader, idle, &work);
         let mut sink = WriterSink::new(&stream);
         let _ = connection.serve(&mut source, &mut sink, &mut seat);
         let agrees = hub.settle(rt, &mut seat);

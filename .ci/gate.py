@@ -3,8 +3,9 @@
 
 usage: .ci/gate.py [--anew] [--without-edits] [NAME..]
 
-A kit whose `rt ci` keeps what passed is asked to do so: then this is `rt ci NAME..`. With an
-earlier kit, which keeps nothing, each step is still the kit's own. What a step passed is kept in
+A kit whose `rt ci` keeps what passed is asked to do so: then this is `rt ci NAME..`, which starts as
+many checks as there is memory for by what each took when it was measured. With an earlier kit,
+which keeps nothing, each step is still the kit's own. What a step passed is kept in
 ~/.cache/continuous-queries, or in the folder that GATE_STORE names, by a checksum of all that it
 read: the kit, HANDLES, the crate's line and files, and the libraries below it as they were built.
 Nothing is kept of a step that failed, and every program and test runs each time.
@@ -311,7 +312,9 @@ def main() -> int:
     names = [it for it in words if it not in FLAGS]
     rt = load_rt()
     if hasattr(rt, "Kept"):
-        os.execv(RT, ["rt", "ci", *(["--anew"] if "--anew" in words else []), *names])
+        fit_memory(rt)
+        rt.Crate.below = functools.lru_cache(maxsize=None)(rt.Crate.below)  # asked for very often
+        return int(rt.main(["ci", *(["--anew"] if "--anew" in words else []), *names]))
     store = Store(rt, rt.handles_of(os.getcwd()), "--anew" in words)
     keep_proofs(rt, store)
     fit_memory(rt)
